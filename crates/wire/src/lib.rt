@@ -1,0 +1,13 @@
+//! Frames of calls and reports: bytes to numbers and back.
+mod bytes;
+mod frames;
+mod reader;
+mod reports;
+
+pub use frames::CallFrame;
+pub use frames::CallKind;
+pub use frames::EnrolFrame;
+pub use frames::EnterFrame;
+pub use bytes::layouts_hold;
+pub use reader::FrameReader;
+pub use reports::report_bytes;
