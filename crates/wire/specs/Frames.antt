@@ -16,7 +16,7 @@ use Rattle.wire.specs.declared.frames.EnterFrame.{EnterFrame}
 use Rattle.wire.specs.declared.frames.EnrolFrame.{EnrolFrame}
 use Rattle.wire.specs.declared.frames.CallFrame.{CallFrame}
 use Rattle.wire.specs.declared.frames.CallFrame.the-variants as frame
-use Rattle.wire.specs.Layouts.{Width, one, two, four, be16, be32}
+use Rattle.wire.specs.Layouts.{Width, one, two, four, fields}
 use Rattle.wire.specs.Reading.{announced, framed, Form, Read, read}
 
 -- the number of each kind
@@ -83,40 +83,44 @@ numbers (frame.Enrol e) = letters (e .trader) (e .broker .number ∷ e .«latenc
 abbrev pub call-bytes : CallFrame → List ℕ
 call-bytes f = framed (kind-code (kind-in f)) (layout (kind-in f)) (numbers f)
 
--- What the bytes of a frame say.
+-- What the numbers of a call's fields say, place by place.
 
-abbrev pub trader-at : List ℕ → TraderId
-trader-at b = record { letters = getD b 4 0 ∷ getD b 5 0 ∷ getD b 6 0 ∷ getD b 7 0 ∷ getD b 8 0 ∷ getD b 9 0 ∷ [] }
+abbrev pub trader-from : List ℕ → TraderId
+trader-from ns = record { letters = getD ns 0 0 ∷ getD ns 1 0 ∷ getD ns 2 0 ∷ getD ns 3 0 ∷ getD ns 4 0 ∷ getD ns 5 0 ∷ [] }
 
 -- a side of a quote is missing where its number is 0
 abbrev pub side-of : ℕ → Option Price
 side-of n = cond (eqb n 0) None (Some (record { quarters = n }))
 
-abbrev pub quote-at : List ℕ → Quote
-quote-at b = record { bid = side-of (be32 b 4); offer = side-of (be32 b 8) }
+abbrev pub quote-from : List ℕ → Quote
+quote-from ns = record { bid = side-of (getD ns 0 0); offer = side-of (getD ns 1 0) }
 
-abbrev pub enter-at : List ℕ → EnterFrame
-enter-at b = record {
-  trader = trader-at b;
-  side = getD b 10 0;
-  kind = getD b 11 0;
-  term = getD b 12 0;
-  marks = getD b 13 0;
-  limit = be32 b 14;
-  volume = be32 b 18;
-  display = be32 b 22;
-  instruction = getD b 26 0;
-  key = be32 b 27
+abbrev pub enter-from : List ℕ → EnterFrame
+enter-from ns = record {
+  trader = trader-from ns;
+  side = getD ns 6 0;
+  kind = getD ns 7 0;
+  term = getD ns 8 0;
+  marks = getD ns 9 0;
+  limit = getD ns 10 0;
+  volume = getD ns 11 0;
+  display = getD ns 12 0;
+  instruction = getD ns 13 0;
+  key = getD ns 14 0
 }
 
+abbrev pub call-from : CallKind → List ℕ → CallFrame
+call-from kind.Enter ns = frame.Enter (enter-from ns)
+call-from kind.Cancel ns = frame.Cancel (record { trader = trader-from ns; order = record { number = getD ns 6 0 } })
+call-from kind.Quote ns = frame.Quote (quote-from ns)
+call-from kind.Halt ns = frame.Halt
+call-from kind.Resume ns = frame.Resume (quote-from ns)
+call-from kind.Close ns = frame.Close
+call-from kind.Enrol ns = frame.Enrol (record { trader = trader-from ns; broker = record { number = getD ns 6 0 }; «latency_sensitive» = getD ns 7 0 })
+
+-- What the bytes of a frame say: the fields begin at 4.
 abbrev pub call-at : List ℕ → CallKind → CallFrame
-call-at b kind.Enter = frame.Enter (enter-at b)
-call-at b kind.Cancel = frame.Cancel (record { trader = trader-at b; order = record { number = be32 b 10 } })
-call-at b kind.Quote = frame.Quote (quote-at b)
-call-at b kind.Halt = frame.Halt
-call-at b kind.Resume = frame.Resume (quote-at b)
-call-at b kind.Close = frame.Close
-call-at b kind.Enrol = frame.Enrol (record { trader = trader-at b; broker = record { number = be16 b 10 }; «latency_sensitive» = getD b 12 0 })
+call-at b k = call-from k (fields (layout k) b 4)
 
 abbrev pub call-form : List ℕ → Option CallKind → Option (Form CallFrame)
 call-form b None = None

@@ -2,8 +2,10 @@
 ghost use mathlib.Core.Path.{_≡_};
 ghost use Prim.Native.Nat.{_+_, _≤_};
 ghost use lib.ListN.{length};
-ghost use Rattle.wire.specs.Frames.{kind-of, layout, kind-in, trader-at, side-of, quote-at, enter-at, call-at};
+ghost use Rattle.wire.specs.Frames.{kind-of, layout, six, kind-in, trader-from, side-of, quote-from, enter-from, call-at};
+ghost use Rattle.wire.specs.Layouts.{fields};
 ghost use Rattle.wire.specs.Reading.{announced};
+ghost use mathlib.Core.List.{[]};
 use crate::bytes::half;
 use crate::bytes::word;
 use types::Broker;
@@ -106,7 +108,7 @@ impl CallFrame {
 
 fn trader_in(b: &[u8]) -> TraderId
     requires { ⌜ 10 ≤ length (now b) ⌝ }
-    ensures { λ r. ⌜ r ≡ trader-at (now (b .entry)) ⌝ }
+    ensures { λ r. ⌜ r ≡ trader-from (fields (six []) (now (b .entry)) 4) ⌝ }
 {
     TraderId {
         letters: [b[4], b[5], b[6], b[7], b[8], b[9]],
@@ -126,7 +128,7 @@ fn quote_side(quarters: u32) -> Option<Price>
 
 fn quote_in(b: &[u8]) -> Quote
     requires { ⌜ 12 ≤ length (now b) ⌝ }
-    ensures { λ r. ⌜ r ≡ quote-at (now (b .entry)) ⌝ }
+    ensures { λ r. ⌜ r ≡ quote-from (fields (layout CallKind.Quote) (now (b .entry)) 4) ⌝ }
 {
     Quote {
         bid: quote_side(word(b, 4)),
@@ -136,7 +138,7 @@ fn quote_in(b: &[u8]) -> Quote
 
 fn entry_in(b: &[u8]) -> EnterFrame
     requires { ⌜ 31 ≤ length (now b) ⌝ }
-    ensures { λ r. ⌜ r ≡ enter-at (now (b .entry)) ⌝ }
+    ensures { λ r. ⌜ r ≡ enter-from (fields (layout CallKind.Enter) (now (b .entry)) 4) ⌝ }
 {
     EnterFrame {
         trader: trader_in(b),
