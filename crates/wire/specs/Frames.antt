@@ -60,6 +60,10 @@ letters t more =
 abbrev pub sides : Quote → List ℕ
 sides q = price-or-zero (q .bid) ∷ price-or-zero (q .offer) ∷ []
 
+-- a quote and a resume differ in their kind alone
+abbrev pub framed-quote : ℕ → Quote → List ℕ
+framed-quote code q = framed code (four ∷ four ∷ []) (sides q)
+
 abbrev pub kind-in : CallFrame → CallKind
 kind-in (frame.Enter e) = kind.Enter
 kind-in (frame.Cancel c) = kind.Cancel

@@ -9,7 +9,7 @@ use Rattle.std.specs.declared.option.Option.the-variants.{Some, None}
 use Rattle.types.specs.declared.reports.Report.{Report}
 use Rattle.types.specs.declared.reports.ReportKind.{ReportKind}
 use Rattle.types.specs.declared.reports.ReportKind.the-variants as kind
-use Rattle.wire.specs.Layouts.{Width, one, four, be32}
+use Rattle.wire.specs.Layouts.{Width, one, four, fields}
 use Rattle.wire.specs.Reading.{announced, framed, Form, Read, read}
 
 -- the number of each kind; a blank has 0, which no reader takes
@@ -41,8 +41,11 @@ report-numbers r = r .order ∷ r .other ∷ r .price ∷ r .volume ∷ r .mark 
 abbrev pub report-bytes : Report → List ℕ
 report-bytes r = framed (report-code (r .kind)) report-layout (report-numbers r)
 
+abbrev pub report-from : ReportKind → List ℕ → Report
+report-from k ns = record { kind = k; order = getD ns 0 0; other = getD ns 1 0; price = getD ns 2 0; volume = getD ns 3 0; mark = getD ns 4 0 }
+
 abbrev pub report-at : List ℕ → ReportKind → Report
-report-at b k = record { kind = k; order = be32 b 4; other = be32 b 8; price = be32 b 12; volume = be32 b 16; mark = getD b 20 0 }
+report-at b k = report-from k (fields report-layout b 4)
 
 abbrev pub report-form : List ℕ → Option ReportKind → Option (Form Report)
 report-form b None = None

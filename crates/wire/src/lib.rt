@@ -3,6 +3,7 @@ mod bytes;
 mod frames;
 mod reader;
 mod reports;
+mod writer;
 
 pub use frames::CallFrame;
 pub use frames::CallKind;
@@ -11,3 +12,5 @@ pub use frames::EnterFrame;
 pub use bytes::layouts_hold;
 pub use reader::FrameReader;
 pub use reports::report_bytes;
+pub use writer::frames_round_trip;
+pub use writer::write_call;
