@@ -1,1 +1,3 @@
-
+mod Codes
+mod Checked
+mod CallTrips

@@ -144,3 +144,10 @@ pub fn next_call(frames: &mut FrameReader, lot: Lot) -> Result<Option<Call>, Fie
         }
     }
 }
+
+/// Calls and their frames, both ways.
+pub fn calls_round_trip() -> u8
+    ensures { λ _. ⌜ Calls-round-trip ⌝ }
+{
+    0
+}
