@@ -1,6 +1,6 @@
 //! What an order is worth at a moment, and which order may take which.
 ghost use mathlib.Core.Path.{_≡_};
-ghost use Rattle.prices.specs.Prices.{View, middle-of, middle as middle-price, no-worse, at-most, at-least, capped, pegged, price as price-at, is-peg, opposite, pegs-agree, crosses, may-take, Prices-hold};
+ghost use Rattle.prices.specs.Prices.{middle as middle-price, no-worse, at-most, at-least, capped, pegged, price as price-at, is-peg, opposite, pegs-agree, crosses, may-take, Prices-hold};
 use types::Entry;
 use types::OrderKind;
 use types::Price;
@@ -120,7 +120,11 @@ pub fn may_take(view: &Quote, active: &Entry, resting: &Entry) -> bool
     are_opposite(active.side, resting.side)
         && !active.marks.post_only
         && do_pegs_agree(active.kind, resting.kind)
-        && do_cross(active.side, executable_price(view, active), executable_price(view, resting))
+        && do_cross(
+            active.side,
+            executable_price(view, active),
+            executable_price(view, resting),
+        )
 }
 
 /// Worked cases of the middle and of a limit beyond the far side of the quote.

@@ -3,8 +3,6 @@ use mathlib.Core.Path.{_≡_}
 use mathlib.Core.Bool.{Bool, true, false, not, _&&_, _||_}
 use lib.Dec.{eqb, ltb}
 use Rattle.types.specs.declared.money.Price.{Price}
-use Rattle.types.specs.declared.orders.Broker.{Broker}
-use Rattle.types.specs.declared.orders.Marks.{Marks}
 use Rattle.types.specs.declared.orders.Side.{Side}
 use Rattle.types.specs.declared.orders.Side.the-variants.{Buy, Sell}
 use Rattle.priority.specs.declared.Ahead.{Ahead}
