@@ -3,6 +3,13 @@ use crate::parts::LineFault;
 use crate::parts::Part;
 use crate::parts::Wrong;
 use crate::parts::name_of;
+use crate::tables::FlagWorded;
+use crate::tables::MarksWorded;
+use crate::tables::OrderKindWorded;
+use crate::tables::SideWorded;
+use crate::tables::TimeInForceWorded;
+use crate::tables::Worded;
+use crate::tables::code_of;
 use std::str::SplitWhitespace;
 use types::Broker;
 use types::Cancellation;
@@ -62,11 +69,15 @@ fn word_number(word: &str, part: Part) -> Result<u32, LineFault> {
     }
 }
 
-/// A code told as a number, so that codes without a meaning can be written too.
-fn code_number(word: &str, part: Part) -> Result<u8, LineFault> {
-    match byte_number(word, part) {
-        Ok(number) => Ok(number),
-        Err(_) => is_wrong(part, Wrong::Unknown),
+/// The code of a word, or one told as a number, so that codes without a meaning can be written too.
+fn next_code<T: Worded>(words: &mut SplitWhitespace<'_>, part: Part) -> Result<u8, LineFault> {
+    let word = next_word(words, part)?;
+    match code_of::<T>(word) {
+        Some(code) => Ok(code),
+        None => match byte_number(word, part) {
+            Ok(code) => Ok(code),
+            Err(_) => is_wrong(part, Wrong::Unknown),
+        },
     }
 }
 
@@ -144,80 +155,13 @@ fn trader(words: &mut SplitWhitespace<'_>) -> Result<TraderId, LineFault> {
     }
 }
 
-fn side(word: &str) -> Result<u8, LineFault> {
-    match word {
-        "buy" => Ok(1),
-        "sell" => Ok(2),
-        _ => code_number(word, Part::Side),
-    }
-}
-
-fn kind(word: &str) -> Result<u8, LineFault> {
-    match word {
-        "limit" => Ok(1),
-        "iceberg" => Ok(2),
-        "peg" => Ok(3),
-        _ => code_number(word, Part::Kind),
-    }
-}
-
-fn term(word: &str) -> Result<u8, LineFault> {
-    match word {
-        "day" => Ok(1),
-        "ioc" => Ok(2),
-        "fok" => Ok(3),
-        _ => code_number(word, Part::Term),
-    }
-}
-
-/// One mark's worth, or 0 for a word that is none.
-fn mark(word: &str) -> u8 {
-    match word {
-        "post-only" => 1,
-        "anonymous" => 2,
-        "jitney" => 4,
-        _ => 0,
-    }
-}
-
-/// The marks that are set, in their sequence, joined by `+`.
-fn joined_marks(word: &str) -> Option<u8> {
-    let mut marks = 0u8;
-    for name in word.split('+') {
-        let worth = mark(name);
-        if worth <= marks {
-            return None;
-        }
-        marks |= worth;
-    }
-    Some(marks)
-}
-
-fn marks(word: &str) -> Result<u8, LineFault> {
-    if word == "-" {
-        return Ok(0);
-    }
-    match joined_marks(word) {
-        Some(marks) => Ok(marks),
-        None => code_number(word, Part::Marks),
-    }
-}
-
-fn flag(word: &str) -> Result<u8, LineFault> {
-    match word {
-        "no" => Ok(0),
-        "yes" => Ok(1),
-        _ => code_number(word, Part::Lst),
-    }
-}
-
 fn entry(words: &mut SplitWhitespace<'_>) -> Result<EnterFrame, LineFault> {
     let trader = trader(words)?;
-    let side = side(next_word(words, Part::Side)?)?;
-    let kind = kind(next_word(words, Part::Kind)?)?;
-    let term = term(next_word(words, Part::Term)?)?;
+    let side = next_code::<SideWorded>(words, Part::Side)?;
+    let kind = next_code::<OrderKindWorded>(words, Part::Kind)?;
+    let term = next_code::<TimeInForceWorded>(words, Part::Term)?;
     expect_name(words, Part::Marks)?;
-    let marks = marks(next_word(words, Part::Marks)?)?;
+    let marks = next_code::<MarksWorded>(words, Part::Marks)?;
     let limit = named_price(words, Part::Limit)?;
     let volume = named_number(words, Part::Volume)?;
     let display = named_number(words, Part::Display)?;
@@ -265,7 +209,7 @@ fn enrolment(words: &mut SplitWhitespace<'_>) -> Result<EnrolFrame, LineFault> {
     let trader = trader(words)?;
     let broker = broker(words)?;
     expect_name(words, Part::Lst)?;
-    let latency_sensitive = flag(next_word(words, Part::Lst)?)?;
+    let latency_sensitive = next_code::<FlagWorded>(words, Part::Lst)?;
     Ok(EnrolFrame {
         trader,
         broker,

@@ -6,6 +6,7 @@
 //! and then nothing is written.
 mod lines;
 mod parts;
+mod tables;
 
 use crate::lines::read_call;
 use crate::parts::LineFaultDisplay;

@@ -1,5 +1,4 @@
 -- The line that is printed of a call.
-use mathlib.Core.Bool.{Bool, cond}
 use mathlib.Core.List.{List, _++_}
 use Prim.Native.Nat.{ℕ}
 use lib.Chars.{codes}
@@ -11,7 +10,7 @@ use Rattle.types.specs.declared.calls.Call.the-variants as call
 use Rattle.types.specs.declared.orders.Entry.{Entry}
 use Rattle.types.specs.declared.orders.TraderId.{TraderId}
 use Rattle.codes.specs.Codes.{instruction-code}
-use Rattle.words.specs.Words.{dollars, side-dollars, side-word, kind-word, term-word, mark-words}
+use Rattle.words.specs.Words.{dollars, side-dollars, side-word, kind-word, term-word, mark-words, flag-word}
 
 -- the word trader and the letters, each as a character
 unfoldable pub trader-words : TraderId → List ℕ
@@ -47,4 +46,4 @@ call-words call.Close = codes "close"
 call-words (call.Enrol e) =
     codes "enrol " ++ (trader-words (e .trader)
     ++ (codes " broker " ++ (decimal (e .broker .number)
-    ++ (codes " lst " ++ cond (e .«latency_sensitive») (codes "yes") (codes "no")))))
+    ++ (codes " lst " ++ flag-word (e .«latency_sensitive»)))))

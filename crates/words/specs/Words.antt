@@ -54,6 +54,10 @@ mark-words true false true = codes "post-only+jitney"
 mark-words false true true = codes "anonymous+jitney"
 mark-words true true true = codes "post-only+anonymous+jitney"
 
+abbrev pub flag-word : Bool → List ℕ
+flag-word true = codes "yes"
+flag-word false = codes "no"
+
 abbrev pub reason-word : Reason → List ℕ
 reason-word why.Short = codes "SHORT"
 reason-word why.Version = codes "VERSION"

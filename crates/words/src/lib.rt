@@ -11,6 +11,7 @@ pub use money::Dollars;
 pub use money::DollarsDisplay;
 pub use money::QuoteSide;
 pub use money::QuoteSideDisplay;
+pub use names::flag_word;
 pub use names::kind_word;
 pub use names::marks_word;
 pub use names::reason_word;

@@ -6,6 +6,7 @@ use crate::money::Dollars;
 use crate::money::DollarsDisplay;
 use crate::money::QuoteSide;
 use crate::money::QuoteSideDisplay;
+use crate::names::flag_word;
 use crate::names::kind_word;
 use crate::names::marks_word;
 use crate::names::reason_word;
@@ -128,7 +129,7 @@ pub impl fmt::Display for CallLine as CallLineDisplay {
             Call::Enrol(enrolment) => {
                 let trader = TraderWords { trader: enrolment.trader };
                 let broker = enrolment.broker.number;
-                let lst = if enrolment.latency_sensitive { "yes" } else { "no" };
+                let lst = flag_word(enrolment.latency_sensitive);
                 write!(f, "enrol {trader} broker {broker} lst {lst}")
             }
         }

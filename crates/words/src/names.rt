@@ -1,6 +1,6 @@
 //! The words for sides, kinds, terms, marks and reasons.
 ghost use mathlib.Core.Path.{_≡_};
-ghost use Rattle.words.specs.Words.{side-word, kind-word, term-word, mark-words, reason-word};
+ghost use Rattle.words.specs.Words.{side-word, kind-word, term-word, mark-words, flag-word, reason-word};
 use faults::Reason;
 use types::Marks;
 use types::OrderKind;
@@ -49,6 +49,12 @@ pub fn marks_word(marks: Marks) -> &'static str
         (false, true, true) => "anonymous+jitney",
         (true, true, true) => "post-only+anonymous+jitney",
     }
+}
+
+pub fn flag_word(flag: bool) -> &'static str
+    ensures { λ r. ⌜ now r ≡ flag-word flag ⌝ }
+{
+    if flag { "yes" } else { "no" }
 }
 
 pub fn reason_word(reason: Reason) -> &'static str
