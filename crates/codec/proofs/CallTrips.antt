@@ -103,7 +103,7 @@ entry-was f e h =
       volume = record { shares = f .volume };
       display = record { shares = f .display };
       instruction = i;
-      key = record { number = f .key }
+      key = record { number = f .key };
     } = cc in
     let a = side-told (f .side) s (meant-was (side-of (f .side)) at.Side s sh) in
     let b = kind-told (f .kind) k (meant-was (kind-of (f .kind)) at.OrderKind k kh) in

@@ -40,6 +40,7 @@ present None f e = refl
 present (Some p) f e = some-price p (passed (on-tick (p .quarters)) (fault.Price f) e)
 
 pub quoted : (q : Quote) → quote-check q ≡ Ok tt → Present q
-quoted q e =
-    (present (q .bid) at.Bid (first (side-check (q .bid) at.Bid) (side-check (q .offer) at.Offer) e),
-     present (q .offer) at.Offer (second (side-check (q .bid) at.Bid) (side-check (q .offer) at.Offer) e))
+quoted q e = (
+  present (q .bid) at.Bid (first (side-check (q .bid) at.Bid) (side-check (q .offer) at.Offer) e),
+  present (q .offer) at.Offer (second (side-check (q .bid) at.Bid) (side-check (q .offer) at.Offer) e),
+)

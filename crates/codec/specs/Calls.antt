@@ -53,7 +53,7 @@ decoded-entry f =
       volume = record { shares = f .volume };
       display = record { shares = f .display };
       instruction = instruction;
-      key = record { number = f .key }
+      key = record { number = f .key };
     })))))))
 
 abbrev pub decoded-enrolment : EnrolFrame → Result Enrolment FieldFault
@@ -83,7 +83,7 @@ encoded-entry e = record {
   volume = e .volume .shares;
   display = e .display .shares;
   instruction = instruction-code (e .instruction);
-  key = e .key .number
+  key = e .key .number;
 }
 
 abbrev pub encoded : Call → CallFrame

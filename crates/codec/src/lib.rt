@@ -45,16 +45,25 @@ fn decode_entry(frame: &EnterFrame) -> Result<Entry, FieldFault>
     let kind = decode_code::<OrderKindCoded>(frame.kind, CallField::OrderKind)?;
     let term = decode_code::<TimeInForceCoded>(frame.term, CallField::Term)?;
     let marks = decode_code::<MarksCoded>(frame.marks, CallField::Marks)?;
-    let instruction = decode_code::<StpInstructionCoded>(frame.instruction, CallField::Instruction)?;
+    let instruction = decode_code::<StpInstructionCoded>(
+        frame.instruction,
+        CallField::Instruction,
+    )?;
     Ok(Entry {
         trader: frame.trader,
         side,
         kind,
         term,
         marks,
-        limit: Price { quarters: frame.limit },
-        volume: Volume { shares: frame.volume },
-        display: Volume { shares: frame.display },
+        limit: Price {
+            quarters: frame.limit,
+        },
+        volume: Volume {
+            shares: frame.volume,
+        },
+        display: Volume {
+            shares: frame.display,
+        },
         instruction,
         key: StpKey { number: frame.key },
     })
@@ -65,7 +74,10 @@ fn decode_enrolment(frame: &EnrolFrame) -> Result<Enrolment, FieldFault>
 {
     check_trader(frame.trader)?;
     check_broker(frame.broker)?;
-    let latency_sensitive = decode_code::<FlagCoded>(frame.latency_sensitive, CallField::LatencySensitive)?;
+    let latency_sensitive = decode_code::<FlagCoded>(
+        frame.latency_sensitive,
+        CallField::LatencySensitive,
+    )?;
     Ok(Enrolment {
         trader: frame.trader,
         broker: frame.broker,

@@ -62,13 +62,13 @@ pub fn name_of(part: Part) -> &'static str {
 
 fn message_of(wrong: Wrong) -> &'static str {
     match wrong {
-        Wrong::Missing => "is missing",
-        Wrong::Unknown => "is not a word or code that it can be",
-        Wrong::NotSixLetters => "does not have six letters",
-        Wrong::NotNumber => "is not a number",
-        Wrong::NotDollars => "is not an amount in dollars and quarter cents",
-        Wrong::TooLarge => "does not fit its field",
-        Wrong::WordsLeft => "is complete, but words are left on the line",
+        Wrong::Missing => "missing",
+        Wrong::Unknown => "not a word or a code that it can be",
+        Wrong::NotSixLetters => "not six letters",
+        Wrong::NotNumber => "not a number",
+        Wrong::NotDollars => "not an amount in dollars and quarter cents",
+        Wrong::TooLarge => "too large for its field",
+        Wrong::WordsLeft => "complete, but words are left on the line",
     }
 }
 
@@ -76,6 +76,6 @@ pub impl fmt::Display for LineFault as LineFaultDisplay {
     fn fmt<W: fmt::Write>(&self, f: &mut fmt::Formatter<W>) -> fmt::Result {
         let name = name_of(self.part);
         let message = message_of(self.wrong);
-        write!(f, "the {name} {message}")
+        write!(f, "{name}: {message}")
     }
 }

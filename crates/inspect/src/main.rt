@@ -49,7 +49,12 @@ fn is_cut_short(fault: FieldFault) -> bool {
 }
 
 /// One frame's line. It answers whether the reading goes on, and whether the frame was refused.
-fn print_next(out: &mut impl Write, frames: &mut FrameReader, lot: Lot, number: u64) -> io::Result<(bool, bool)> {
+fn print_next(
+    out: &mut impl Write,
+    frames: &mut FrameReader,
+    lot: Lot,
+    number: u64,
+) -> io::Result<(bool, bool)> {
     match next_call(frames, lot) {
         Ok(None) => Ok((false, false)),
         Ok(Some(call)) => {
@@ -92,11 +97,20 @@ fn run(rt: &LibcRuntime) -> Result<(), AnyError> {
         }
     }
     let left = frames.bytes_left();
-    writeln!(out, "end {count} frames, {refusals} refused, {left} bytes not read")?;
+    writeln!(
+        out,
+        "end {count} frames, {refusals} refused, {left} bytes not read"
+    )?;
     out.flush()?;
     Ok(())
 }
 
 fn main(rt: LibcRuntime) -> Result<(), AnyError> {
-    rt.report(run(&rt))
+    match run(&rt) {
+        Ok(()) => Ok(()),
+        Err(error) => {
+            eprintln!(rt, "inspect: {error}")?;
+            Err(error)
+        }
+    }
 }

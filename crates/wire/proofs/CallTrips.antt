@@ -89,7 +89,7 @@ again (frame.Enter e) s = ap (λ (l : List ℕ). frame.Enter (record {
   volume = e .volume;
   display = e .display;
   instruction = e .instruction;
-  key = e .key
+  key = e .key;
 })) (six (e .trader .letters) s)
 again (frame.Cancel c) s = ap (λ (l : List ℕ). frame.Cancel (record { trader = record { letters = l }; order = c .order })) (six (c .trader .letters) s)
 again (frame.Quote q) s = ap frame.Quote (quote-again q s)
@@ -133,7 +133,7 @@ call-reads f more s fit =
     let st = stands (kind-code k) (layout k) (numbers f) more c a fit in
     let form : call-form (call-bytes f ++ more) (kind-of (getD (call-bytes f ++ more) 3 0)) ≡ Some (record { length = announced (layout k); value = f })
     = ap (λ n. call-form (call-bytes f ++ more) (kind-of n)) (st .kind) ∙ ap (call-form (call-bytes f ++ more)) (coded k)
-      ∙ ap (λ (v : CallFrame). Some (record { length = announced (layout k); value = v })) (ap (call-from k) (st .numbers) ∙ again f s) in
+    ∙ ap (λ (v : CallFrame). Some (record { length = announced (layout k); value = v })) (ap (call-from k) (st .numbers) ∙ again f s) in
     framed-reads (call-form (call-bytes f ++ more) (kind-of (getD (call-bytes f ++ more) 3 0))) f (kind-code k) (layout k) (numbers f) more c a fit form
 
 -- a form that is known is that of its kind

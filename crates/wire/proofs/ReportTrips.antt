@@ -55,7 +55,7 @@ report-reads r more h fit =
     let st = stands (report-code (r .kind)) report-layout (report-numbers r) more c a fit in
     let form : report-form b (report-kind (getD b 3 0)) ≡ Some (record { length = announced report-layout; value = r })
     = ap (λ n. report-form b (report-kind n)) (st .kind) ∙ ap (report-form b) (coded (r .kind) h)
-      ∙ ap (λ (ns : List ℕ). Some (record { length = announced report-layout; value = report-from (r .kind) ns })) (st .numbers) in
+    ∙ ap (λ (ns : List ℕ). Some (record { length = announced report-layout; value = report-from (r .kind) ns })) (st .numbers) in
     framed-reads (report-form b (report-kind (getD b 3 0))) r (report-code (r .kind)) report-layout (report-numbers r) more c a fit form
 
 form-was : (b : List ℕ) (o : Option ReportKind) (n : ℕ) (r : Report) → report-form b o ≡ Some (record { length = n; value = r })

@@ -110,7 +110,7 @@ enter-from ns = record {
   volume = getD ns 11 0;
   display = getD ns 12 0;
   instruction = getD ns 13 0;
-  key = getD ns 14 0
+  key = getD ns 14 0;
 }
 
 abbrev pub call-from : CallKind → List ℕ → CallFrame

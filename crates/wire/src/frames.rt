@@ -163,7 +163,9 @@ pub(crate) fn call_in(b: &[u8], kind: CallKind) -> CallFrame
         CallKind::Enter => CallFrame::Enter(entry_in(b)),
         CallKind::Cancel => CallFrame::Cancel(Cancellation {
             trader: trader_in(b),
-            order: OrderNumber { number: word(b, 10) },
+            order: OrderNumber {
+                number: word(b, 10),
+            },
         }),
         CallKind::Quote => CallFrame::Quote(quote_in(b)),
         CallKind::Halt => CallFrame::Halt,
@@ -171,7 +173,9 @@ pub(crate) fn call_in(b: &[u8], kind: CallKind) -> CallFrame
         CallKind::Close => CallFrame::Close,
         CallKind::Enrol => CallFrame::Enrol(EnrolFrame {
             trader: trader_in(b),
-            broker: Broker { number: half(b, 10) },
+            broker: Broker {
+                number: half(b, 10),
+            },
             latency_sensitive: b[12],
         }),
     }

@@ -5,11 +5,11 @@ mod reader;
 mod reports;
 mod writer;
 
+pub use bytes::layouts_hold;
 pub use frames::CallFrame;
 pub use frames::CallKind;
 pub use frames::EnrolFrame;
 pub use frames::EnterFrame;
-pub use bytes::layouts_hold;
 pub use reader::FrameReader;
 pub use reports::report_bytes;
 pub use writer::frames_round_trip;

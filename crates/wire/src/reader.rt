@@ -45,7 +45,11 @@ fn check_version(b: &[u8], announced: u16) -> Result<(), FrameFault>
     if announced < 2 {
         return Err(FrameFault::Length);
     }
-    if b[2] == 1 { Ok(()) } else { Err(FrameFault::Version) }
+    if b[2] == 1 {
+        Ok(())
+    } else {
+        Err(FrameFault::Version)
+    }
 }
 
 fn whole_call(b: &[u8], announced: u16) -> Result<CallFrame, FrameFault>

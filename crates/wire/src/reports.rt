@@ -60,5 +60,27 @@ pub fn report_bytes(report: Report) -> [u8; 21]
     let [e, f, g, h] = report.other.to_be_bytes();
     let [i, j, k, l] = report.price.to_be_bytes();
     let [m, n, o, p] = report.volume.to_be_bytes();
-    [0, 19, 1, code, a, b, c, d, e, f, g, h, i, j, k, l, m, n, o, p, report.mark]
+    [
+        0,
+        19,
+        1,
+        code,
+        a,
+        b,
+        c,
+        d,
+        e,
+        f,
+        g,
+        h,
+        i,
+        j,
+        k,
+        l,
+        m,
+        n,
+        o,
+        p,
+        report.mark,
+    ]
 }

@@ -31,7 +31,37 @@ fn enter_bytes(entry: EnterFrame) -> [u8; 31]
     let marks = entry.marks;
     let instruction = entry.instruction;
     [
-        0, 29, 1, 1, s, t, u, v, w, x, side, kind, term, marks, a, b, c, d, e, f, g, h, i, j, k, l, instruction, m, n, o, p,
+        0,
+        29,
+        1,
+        1,
+        s,
+        t,
+        u,
+        v,
+        w,
+        x,
+        side,
+        kind,
+        term,
+        marks,
+        a,
+        b,
+        c,
+        d,
+        e,
+        f,
+        g,
+        h,
+        i,
+        j,
+        k,
+        l,
+        instruction,
+        m,
+        n,
+        o,
+        p,
     ]
 }
 

@@ -66,7 +66,9 @@ impl fmt::Display for OrderWords as OrderWordsDisplay {
     ghost shown = { λ w. Some (order-words (w .entry)) };
 
     fn fmt<W: fmt::Write>(&self, f: &mut fmt::Formatter<W>) -> fmt::Result {
-        let trader = TraderWords { trader: self.entry.trader };
+        let trader = TraderWords {
+            trader: self.entry.trader,
+        };
         let side = side_word(self.entry.side);
         let kind = kind_word(self.entry.kind);
         let term = term_word(self.entry.term);
@@ -84,12 +86,17 @@ impl fmt::Display for NumberWords as NumberWordsDisplay {
     ghost shown = { λ w. Some (number-words (w .entry)) };
 
     fn fmt<W: fmt::Write>(&self, f: &mut fmt::Formatter<W>) -> fmt::Result {
-        let limit = Dollars { price: self.entry.limit };
+        let limit = Dollars {
+            price: self.entry.limit,
+        };
         let volume = self.entry.volume.shares;
         let display = self.entry.display.shares;
         let instruction = self.entry.instruction.code();
         let key = self.entry.key.number;
-        write!(f, "limit {limit} volume {volume} display {display} instruction {instruction} key {key}")
+        write!(
+            f,
+            "limit {limit} volume {volume} display {display} instruction {instruction} key {key}"
+        )
     }
 }
 
@@ -110,7 +117,9 @@ pub impl fmt::Display for CallLine as CallLineDisplay {
                 write!(f, "enter {order} {numbers}")
             }
             Call::Cancel(cancellation) => {
-                let trader = TraderWords { trader: cancellation.trader };
+                let trader = TraderWords {
+                    trader: cancellation.trader,
+                };
                 let order = cancellation.order.number;
                 write!(f, "cancel {trader} order {order}")
             }
@@ -127,7 +136,9 @@ pub impl fmt::Display for CallLine as CallLineDisplay {
             }
             Call::Close => write!(f, "close"),
             Call::Enrol(enrolment) => {
-                let trader = TraderWords { trader: enrolment.trader };
+                let trader = TraderWords {
+                    trader: enrolment.trader,
+                };
                 let broker = enrolment.broker.number;
                 let lst = flag_word(enrolment.latency_sensitive);
                 write!(f, "enrol {trader} broker {broker} lst {lst}")
