@@ -1,0 +1,3 @@
+//! Tests of the outer layer: calls, frames, refusals and reports on examples.
+#[cfg(test)]
+mod tests;
