@@ -1,0 +1,81 @@
+-- A call to the book, accepted or refused: its answer, and what it leaves.
+use mathlib.Core.Bool.{Bool, true, false, cond}
+use mathlib.Core.List.{List, [], _++_}
+use Prim.Native.Nat.{ℕ, _-_}
+use lib.ListN.{length, replicate}
+use Rattle.std.specs.declared.option.Option.{Option}
+use Rattle.std.specs.declared.option.Option.the-variants.{Some, None}
+use Rattle.std.specs.declared.result.Result.{Result}
+use Rattle.std.specs.declared.result.Result.the-variants.{Ok, Err}
+use Rattle.types.specs.declared.calls.Call.{Call}
+use Rattle.types.specs.declared.calls.Call.the-variants as call
+use Rattle.types.specs.declared.orders.Order.{Order}
+use Rattle.types.specs.declared.orders.RestingOrder.{RestingOrder}
+use Rattle.types.specs.declared.reports.Report.{Report}
+use Rattle.types.specs.Reports.{blank}
+use Rattle.faults.specs.declared.layers.ChannelFault.{ChannelFault}
+use Rattle.priority.specs.Priority.{Rule}
+use Rattle.rules.specs.declared.SetUp.{SetUp}
+use Rattle.rules.specs.States.{State, Made}
+use Rattle.rules.specs.Calls.{made}
+use Rattle.rules.specs.Refusals.{first-fault, grounds, room}
+
+-- How many reports were put, or the fault; the state; the call's own reports in sequence; and the order that it accepted.
+pub record Outcome : Type 0 where
+  pub answer : Result ℕ ChannelFault
+  pub state : State
+  pub reports : List Report
+  pub orders : List Order
+
+-- A refused call leaves the state as it was.
+abbrev pub refused : ChannelFault → State → Outcome
+refused fault st = record { answer = Err fault; state = st; reports = []; orders = [] }
+
+-- The state with n places less in the channel.
+abbrev pub sent : ℕ → State → State
+sent n st = record { session = st .session; quote = st .quote; resting = st .resting; traders = st .traders; accepted = st .accepted; space = st .space - n }
+
+abbrev pub taken : Made → Outcome
+taken m = record {
+  answer = Ok (length (m .reports));
+  state = sent (length (m .reports)) (m .state);
+  reports = m .reports;
+  orders = m .orders
+}
+
+abbrev pub settled : Option ChannelFault → State → Made → Outcome
+settled None st m = taken m
+settled (Some fault) st m = refused fault st
+
+unfoldable pub served : SetUp → Rule → State → Call → Outcome
+served s rule st c =
+    let m : Made = made rule c st in
+    settled (first-fault (grounds s c st ++ room s st (length (m .reports)))) st m
+
+-- The reports, and blanks up to the end of the sheet; all blank after a refusal.
+abbrev pub filled-up : SetUp → List Report → List Report
+filled-up s reports = reports ++ replicate (s .sheet - length reports) blank
+
+-- The event sheet after a call, from the one before it: enrol leaves it alone.
+abbrev pub sheet-after : SetUp → Rule → State → Call → List Report → List Report
+sheet-after s rule st (call.Enter e) sheet = filled-up s (served s rule st (call.Enter e) .reports)
+sheet-after s rule st (call.Cancel c) sheet = filled-up s (served s rule st (call.Cancel c) .reports)
+sheet-after s rule st (call.Quote q) sheet = filled-up s (served s rule st (call.Quote q) .reports)
+sheet-after s rule st call.Halt sheet = filled-up s (served s rule st call.Halt .reports)
+sheet-after s rule st (call.Resume q) sheet = filled-up s (served s rule st (call.Resume q) .reports)
+sheet-after s rule st call.Close sheet = filled-up s (served s rule st call.Close .reports)
+sheet-after s rule st (call.Enrol e) sheet = sheet
+
+abbrev pub unless-tried : Option ChannelFault → List RestingOrder → List RestingOrder → List RestingOrder
+unless-tried None before spare = before
+unless-tried (Some fault) before spare = spare
+
+-- The spare table after a call, from the one before it: the time list from before the call, once the call was tried.
+abbrev pub spare-after : SetUp → State → Call → List RestingOrder → List RestingOrder
+spare-after s st (call.Enter e) spare = unless-tried (first-fault (grounds s (call.Enter e) st)) (st .resting) spare
+spare-after s st (call.Cancel c) spare = unless-tried (first-fault (grounds s (call.Cancel c) st)) (st .resting) spare
+spare-after s st (call.Quote q) spare = unless-tried (first-fault (grounds s (call.Quote q) st)) (st .resting) spare
+spare-after s st call.Halt spare = unless-tried (first-fault (grounds s call.Halt st)) (st .resting) spare
+spare-after s st (call.Resume q) spare = unless-tried (first-fault (grounds s (call.Resume q) st)) (st .resting) spare
+spare-after s st call.Close spare = unless-tried (first-fault (grounds s call.Close st)) (st .resting) spare
+spare-after s st (call.Enrol e) spare = spare

@@ -1,0 +1,13 @@
+//! The rules of a day: what each call does in each state, and the laws that every day keeps.
+
+/// What a book is set up with: the board lot in shares, how many orders a day takes, and the places of the order table,
+/// the event sheet, the trader register and the order register.
+#[derive(Clone, Copy)]
+pub struct SetUp {
+    pub lot: u32,
+    pub day_limit: u32,
+    pub table: usize,
+    pub sheet: usize,
+    pub traders: usize,
+    pub orders: usize,
+}

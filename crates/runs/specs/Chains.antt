@@ -1,0 +1,43 @@
+-- What a run is, with no count of its steps: a chain of meetings with the foremost slices.
+use mathlib.Core.Path.{_≡_}
+use mathlib.Core.Logic.{_⊎_}
+use mathlib.Core.Bool.{true}
+use mathlib.Core.List.{List, [], _∷_}
+use Prim.Native.Nat.{ℕ, _<_}
+use Rattle.types.specs.declared.orders.Order.{Order}
+use Rattle.priority.specs.declared.Ahead.the-variants.{First, Level}
+use Rattle.prices.specs.Prices.{View}
+use Rattle.priority.specs.Priority.{Rule, Lawful}
+use Rattle.runs.specs.Lists.{At}
+use Rattle.runs.specs.Slices.{Slice, amount, takes, taker, facts}
+use Rattle.runs.specs.Runs.{Run, meet, run}
+
+-- A non-empty slice of a resting order that a may take.
+pub record Open-to (view : View) (a : Order) (st : Run) (s : Slice) : Type 0 where
+  pub at : At (st .others) (s .place) (s .resting)
+  pub taken : takes view a (s .resting .order) ≡ true
+  pub some : 0 < amount s
+
+-- Each other such slice is behind it, or is level with it and comes later on the time list.
+pub record Foremost (rule : Rule) (view : View) (a : Order) (st : Run) (s : Slice) : Type 0 where
+  pub here : Open-to view a st s
+  pub first : (t : Slice) → Open-to view a st t
+      → (t ≡ s) ⊎ ((rule (taker a) (facts view s) (facts view t) ≡ First) ⊎ ((rule (taker a) (facts view s) (facts view t) ≡ Level) × (s .place < t .place)))
+
+-- The active order is used up, or no slice is left.
+abbrev pub Over : View → Order → Run → Type 0
+Over view a st = (st .left ≡ 0) ⊎ ((s : Slice) → Open-to view a st s → ⊥)
+
+-- The chain of meetings with the slices of a list, from one state of a run to its end.
+pub data Chain (rule : Rule) (view : View) (a : Order) : Run → List Slice → Run → Type 0 where
+  ends : (st : Run) → Over view a st → Chain rule view a st [] st
+  meets : (st end : Run) (s : Slice) (met : List Slice) → 0 < st .left → Foremost rule view a st s → Chain rule view a (meet view a st s) met end → Chain rule view a st (s ∷ met) end
+
+-- From any start there is exactly one chain, and it is the run.
+pub record One-chain (rule : Rule) (view : View) (a : Order) (st : Run) : Type 0 where
+  pub met : List Slice
+  pub chain : Chain rule view a st met (run rule view a st)
+  pub only : (others : List Slice) (end : Run) → Chain rule view a st others end → (others ≡ met) × (end ≡ run rule view a st)
+
+abbrev pub Runs-hold : Type 0
+Runs-hold = (rule : Rule) → Lawful rule → (view : View) (a : Order) (st : Run) → One-chain rule view a st
