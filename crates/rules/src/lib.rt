@@ -1,4 +1,5 @@
 //! The rules of a day: what each call does in each state, and the laws that every day keeps.
+ghost use Rattle.rules.specs.Cases.{Cases};
 
 /// What a book is set up with: the board lot in shares, how many orders a day takes, and the places of the order table,
 /// the event sheet, the trader register and the order register.
@@ -10,4 +11,11 @@ pub struct SetUp {
     pub sheet: usize,
     pub traders: usize,
     pub orders: usize,
+}
+
+/// The worked cases come out as they should.
+pub fn cases_hold() -> u8
+    ensures { λ _. ⌜ Cases ⌝ }
+{
+    0
 }

@@ -1,0 +1,41 @@
+-- The worked cases, computed. Assumes nothing.
+use mathlib.Core.Path.{refl}
+use Rattle.prices.specs.Prices.{may-take}
+use Rattle.runs.specs.Slices.{slices, ahead}
+use Rattle.runs.specs.Meetings.{trading, smaller-out, effect}
+use Rattle.runs.specs.Runs.{meet, next-slice, meetings, run, tidied}
+use Rattle.checks.specs.Checks.{Ticks}
+use Rattle.rules.specs.Accounts.{rests}
+use Rattle.rules.specs.Entering.{ran, day-book, ioc-book, fok-book, enter}
+use Rattle.rules.specs.Requotes.{run-at, run-again, re-enter, requote}
+use Rattle.rules.specs.Calls.{cancel, halt, close, enrol}
+use Rattle.rules.specs.Served.{served}
+use Rattle.rules.specs.Days.{day}
+use Rattle.rules.specs.Cases.{Cases}
+
+ticks : Ticks
+ticks = record {
+  limit-199 = refl;
+  peg-199 = refl;
+  limit-200 = refl;
+  peg-200 = refl;
+  limit-202 = refl;
+  peg-202 = refl;
+  limit-204 = refl;
+  peg-204 = refl
+}
+
+pub cases : Cases
+unfolding may-take slices ahead trading smaller-out effect meet next-slice meetings run tidied rests ran day-book ioc-book fok-book enter run-at run-again re-enter requote cancel halt close enrol served day
+cases = record {
+  ticks = ticks;
+  middle-of-4000-by-4012 = refl;
+  no-middle-when-locked = refl;
+  no-middle-when-crossed = refl;
+  buy-4016-is-worth-4012 = refl;
+  own-broker-first = refl;
+  refreshed-then = refl;
+  cancel-and-decrement = refl;
+  fill-or-kill = refl;
+  uncrossed = refl
+}
