@@ -5,6 +5,7 @@ use mathlib.Core.Bool.{true}
 use mathlib.Core.List.{List, [], _∷_}
 use Prim.Native.Nat.{ℕ, _<_}
 use Rattle.types.specs.declared.orders.Order.{Order}
+use Rattle.types.specs.declared.orders.RestingOrder.{RestingOrder}
 use Rattle.priority.specs.declared.Ahead.the-variants.{First, Level}
 use Rattle.prices.specs.Prices.{View}
 use Rattle.priority.specs.Priority.{Rule, Lawful}
@@ -13,20 +14,20 @@ use Rattle.runs.specs.Slices.{Slice, amount, takes, taker, facts}
 use Rattle.runs.specs.Runs.{Run, meet, run}
 
 -- A non-empty slice of a resting order that a may take.
-pub record Open-to (view : View) (a : Order) (st : Run) (s : Slice) : Type 0 where
-  pub at : At (st .others) (s .place) (s .resting)
+pub record Open-to (view : View) (a : Order) (os : List RestingOrder) (s : Slice) : Type 0 where
+  pub at : At os (s .place) (s .resting)
   pub taken : takes view a (s .resting .order) ≡ true
   pub some : 0 < amount s
 
 -- Each other such slice is behind it, or is level with it and comes later on the time list.
 pub record Foremost (rule : Rule) (view : View) (a : Order) (st : Run) (s : Slice) : Type 0 where
-  pub here : Open-to view a st s
-  pub first : (t : Slice) → Open-to view a st t
+  pub here : Open-to view a (st .others) s
+  pub first : (t : Slice) → Open-to view a (st .others) t
       → (t ≡ s) ⊎ ((rule (taker a) (facts view s) (facts view t) ≡ First) ⊎ ((rule (taker a) (facts view s) (facts view t) ≡ Level) × (s .place < t .place)))
 
 -- The active order is used up, or no slice is left.
 abbrev pub Over : View → Order → Run → Type 0
-Over view a st = (st .left ≡ 0) ⊎ ((s : Slice) → Open-to view a st s → ⊥)
+Over view a st = (st .left ≡ 0) ⊎ ((s : Slice) → Open-to view a (st .others) s → ⊥)
 
 -- The chain of meetings with the slices of a list, from one state of a run to its end.
 pub data Chain (rule : Rule) (view : View) (a : Order) : Run → List Slice → Run → Type 0 where
