@@ -2,3 +2,4 @@ pub mod Lists
 pub mod Slices
 pub mod Meetings
 pub mod Runs
+pub mod Chains

@@ -18,7 +18,7 @@ use Rattle.runs.specs.Slices.{Slice, volume-of, volume-in, amount, takes, slic
 use Rattle.runs.specs.Chains.{Open-to}
 use Rattle.runs.proofs.Lists.{in-append, in-left, in-right, in-map, map-in}
 
-slice-is : (o : RestingOrder) (h : Bool) (s : Slice) → In s (slice o h) → (s ≡ record { place = 0; resting = o; hidden = h }) × (0 < amount s)
+pub slice-is : (o : RestingOrder) (h : Bool) (s : Slice) → In s (slice o h) → (s ≡ record { place = 0; resting = o; hidden = h }) × (0 < amount s)
 slice-is o h s i = go (ltb 0 (cond h (o .reserve .shares) (o .shown .shares))) refl i
   where
     go : (b : Bool) → ltb 0 (cond h (o .reserve .shares) (o .shown .shares)) ≡ b → In s (cond b (record { place = 0; resting = o; hidden = h } ∷ []) []) → (s ≡ record { place = 0; resting = o; hidden = h }) × (0 < amount s)
