@@ -66,11 +66,13 @@ price-of Peg side view limit = pegged side (middle view) limit
 abbrev pub price : View → Entry → Option Price
 price view e = price-of (e .kind) (e .side) view (e .limit)
 
+-- The order is a midpoint peg.
 abbrev pub is-peg : OrderKind → Bool
 is-peg Limit = false
 is-peg Iceberg = false
 is-peg Peg = true
 
+-- One buys and the other sells.
 abbrev pub opposite : Side → Side → Bool
 opposite Buy Buy = false
 opposite Buy Sell = true
@@ -88,7 +90,7 @@ crosses side (Some own) None = false
 crosses Buy (Some buyer) (Some seller) = leb (seller .quarters) (buyer .quarters)
 crosses Sell (Some seller) (Some buyer) = leb (seller .quarters) (buyer .quarters)
 
--- The first may take the second: they are on opposite sides, the first is not post-only, a peg meets a peg, and the prices cross.
+-- The first may take the second: they are on opposite sides, the first is not post-only, the second is a peg if the first is one, and the prices cross.
 unfoldable pub may-take : View → Entry → Entry → Bool
 may-take view a b =
     opposite (a .side) (b .side)

@@ -3,8 +3,6 @@ use mathlib.Core.Path.{_≡_}
 use mathlib.Core.Bool.{Bool, true, false, not, _&&_, _||_}
 use lib.Dec.{eqb, ltb}
 use Rattle.types.specs.declared.money.Price.{Price}
-use Rattle.types.specs.declared.orders.Broker.{Broker}
-use Rattle.types.specs.declared.orders.Marks.{Marks}
 use Rattle.types.specs.declared.orders.Side.{Side}
 use Rattle.types.specs.declared.orders.Side.the-variants.{Buy, Sell}
 use Rattle.priority.specs.declared.Ahead.{Ahead}
@@ -22,11 +20,13 @@ swapped First = Second
 swapped Second = First
 swapped Level = Level
 
+-- The first slice is ahead.
 abbrev pub is-first : Ahead → Bool
 is-first First = true
 is-first Second = false
 is-first Level = false
 
+-- The first slice is behind.
 abbrev pub is-second : Ahead → Bool
 is-second First = false
 is-second Second = true
@@ -39,7 +39,7 @@ better Sell p r = ltb (r .quarters) (p .quarters)
 
 -- The laws of a rule.
 pub record Lawful (rule : Rule) : Type 0 where
-  -- Equal facts get equal answers: a rule knows nothing but the facts, and of two slices with the same facts neither is ahead.
+  -- Equal facts get equal answers: a rule is a function of the facts, so the law that is left to keep is that slices with equal facts are level.
   pub same : (a : Taker) (s : SliceFacts) → rule a s s ≡ Level
   -- Swapped slices get the swapped answer.
   pub swap : (a : Taker) (s t : SliceFacts) → rule a t s ≡ swapped (rule a s t)
@@ -50,7 +50,7 @@ pub record Lawful (rule : Rule) : Type 0 where
   -- At one price shown is ahead of hidden.
   pub by-shown : (a : Taker) (s t : SliceFacts) → s .price ≡ t .price → s .hidden ≡ false → t .hidden ≡ true → rule a s t ≡ First
 
--- Of two slices the one that is preferred is ahead.
+-- Of two slices, each preferred or not, the preferred one is ahead.
 abbrev pub prefer : Bool → Bool → Ahead
 prefer true true = Level
 prefer true false = First
@@ -64,7 +64,6 @@ or-else Second next = Second
 or-else Level next = next
 
 infixl 20 _then_
-
 -- One rule, and where it answers level another.
 abbrev pub _then_ : Rule → Rule → Rule
 _then_ rule next a s t = or-else (rule a s t) (next a s t)
@@ -89,11 +88,11 @@ own-broker a s = eqb (a .broker .number) (s .broker .number) && (not (a .marks .
 abbrev pub attributed : Taker → SliceFacts → Bool
 attributed a s = not (a .marks .anonymous) && not (s .marks .anonymous)
 
--- Omega prefers its own broker's attributed slices.
+-- Under Omega an active order prefers a slice of its own broker where both are attributed.
 abbrev pub omega-prefers : Taker → SliceFacts → Bool
 omega-prefers a s = own-broker a s && attributed a s
 
--- Lynx does too, and does not ask of a peg whether it is attributed.
+-- Under Lynx it does too, and for a peg's slice neither of the two needs to be attributed.
 abbrev pub lynx-prefers : Taker → SliceFacts → Bool
 lynx-prefers a s = own-broker a s && (s .peg || attributed a s)
 
@@ -101,8 +100,10 @@ lynx-prefers a s = own-broker a s && (s .peg || attributed a s)
 abbrev pub time-only : Rule
 time-only = best-price then shown-first
 
+-- As time-only, then by Omega's preference.
 abbrev pub omega-rule : Rule
 omega-rule = time-only then preferring omega-prefers
 
+-- As time-only, then by Lynx's preference.
 abbrev pub lynx-rule : Rule
 lynx-rule = time-only then preferring lynx-prefers

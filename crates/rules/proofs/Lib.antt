@@ -1,1 +1,4 @@
 pub mod Cases
+pub mod Prices
+pub mod Meetings
+pub mod Sound

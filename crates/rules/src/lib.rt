@@ -1,5 +1,6 @@
 //! The rules of a day: what each call does in each state, and the laws that every day keeps.
 ghost use Rattle.rules.specs.Cases.{Cases};
+ghost use Rattle.rules.specs.Laws.{Day-law};
 
 /// What a book is set up with: the board lot in shares, how many orders a day takes, and the places of the order table,
 /// the event sheet, the trader register and the order register.
@@ -16,6 +17,13 @@ pub struct SetUp {
 /// The worked cases come out as they should.
 pub fn cases_hold() -> u8
     ensures { λ _. ⌜ Cases ⌝ }
+{
+    0
+}
+
+/// The three laws hold of every day: for every set-up, every lawful rule, every space of the channel and every list of calls.
+pub fn day_holds() -> u8
+    ensures { λ _. ⌜ Day-law ⌝ }
 {
     0
 }
