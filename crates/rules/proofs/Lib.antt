@@ -2,3 +2,4 @@ pub mod Cases
 pub mod Prices
 pub mod Meetings
 pub mod Sound
+pub mod Tidied
