@@ -3,3 +3,5 @@ pub mod Prices
 pub mod Meetings
 pub mod Sound
 pub mod Tidied
+pub mod Inv
+pub mod Enter

@@ -1,6 +1,5 @@
 use Rattle.rules.proofs.day_holds.Needs as need
-use Rattle.rules.proofs.Sound.{run-sound}
-use Rattle.rules.proofs.Tidied.{tidied-in}
+use Rattle.rules.proofs.Enter.{enter-keeps}
 
 pub returns : need.returns
 returns c = ?
