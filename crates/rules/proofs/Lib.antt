@@ -5,3 +5,4 @@ pub mod Sound
 pub mod Tidied
 pub mod Inv
 pub mod Enter
+pub mod Requote

@@ -1,5 +1,5 @@
 use Rattle.rules.proofs.day_holds.Needs as need
-use Rattle.rules.proofs.Enter.{enter-keeps}
+use Rattle.rules.proofs.Requote.{requote-keeps}
 
 pub returns : need.returns
 returns c = ?
