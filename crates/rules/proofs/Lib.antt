@@ -6,3 +6,6 @@ pub mod Tidied
 pub mod Inv
 pub mod Enter
 pub mod Requote
+pub mod Quotes
+pub mod Day
+pub mod Shows
