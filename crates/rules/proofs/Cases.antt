@@ -29,10 +29,7 @@ pub cases : Cases
 unfolding may-take slices ahead trading smaller-out effect meet next-slice meetings run tidied rests ran day-book ioc-book fok-book enter run-at run-again re-enter requote cancel halt close enrol served day
 cases = record {
   ticks = ticks;
-  middle-of-4000-by-4012 = refl;
-  no-middle-when-locked = refl;
-  no-middle-when-crossed = refl;
-  buy-4016-is-worth-4012 = refl;
+  prices = record { apart = refl; locked = refl; crossed = refl; odd = refl; far = refl };
   own-broker-first = refl;
   refreshed-then = refl;
   cancel-and-decrement = refl;

@@ -26,7 +26,7 @@ use Rattle.runs.proofs.Runs.{run-done, run-empty, after, run-after}
 use Rattle.rules.specs.Accounts.{on, lost, entered, rests, quote-of}
 use Rattle.rules.specs.Laws.{Quiet}
 use Rattle.rules.specs.States.{State, Book}
-use Rattle.rules.specs.Requotes.{Spot, further, seek, emptied, put-back, run-at, is-priced, if-resting, run-again, re-enter, to-end, same-price, repriced, numbers, requoted}
+use Rattle.rules.specs.Requotes.{Spot, further, seek, emptied, put-back, run-at, is-priced, if-resting, run-again, re-enter, to-end, same-price, repriced, numbers, moved-by, requoted}
 use Rattle.rules.proofs.Prices.{takes-parts, crossed, not-itself, post-never, takes-same}
 use Rattle.rules.proofs.Sound.{All-fair, Sound, Known, run-sound}
 use Rattle.rules.proofs.Tidied.{rows-of, counted, count, count-tidied, tidied-rests, tidied-in, laid-volume, laid-order}

@@ -99,6 +99,11 @@ on-pos n m v h = go (eqb n m) refl h
     go true e h = (eqb-true n m e, h)
     go false e h = absurd (omega arith)
 
+-- an order's limit is its entry's
+limit-stays : (log : List Report) (o : Order) → limit-in-force log o ≡ o .entry .limit
+unfolding limit-in-force
+limit-stays log o = refl
+
 marked : (s : Side) (sup : Bool) → active-side (side-mark s + cond sup 4 0) ≡ s
 marked Buy true = refl
 marked Buy false = refl
@@ -155,8 +160,8 @@ module _ (rule : Rule) (law : Lawful rule) (orders : List Order) (q : View) (a :
           seller-number = refl;
           buyer-side = ax;
           seller-side = by;
-          low = g .0;
-          high = omega (arith, f .0);
+          low = rw (limit-stays log b) (g .0);
+          high = rw (limit-stays log a) (omega (arith, f .0));
           bid = rw e (g .1);
           offer = rw e (λ o k. omega (arith, f .1 o k));
           peg = rw e pegs;
@@ -175,8 +180,8 @@ module _ (rule : Rule) (law : Lawful rule) (orders : List Order) (q : View) (a :
           seller-number = refl;
           buyer-side = by;
           seller-side = ax;
-          low = omega (arith, f .0);
-          high = g .0;
+          low = rw (limit-stays log a) (omega (arith, f .0));
+          high = rw (limit-stays log b) (g .0);
           bid = rw e (λ o k. omega (arith, f .1 o k));
           offer = rw e (g .1);
           peg = rw e (λ k. pegs (or-swap (is-peg (b .entry .kind)) (is-peg (a .entry .kind)) k));

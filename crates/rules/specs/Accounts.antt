@@ -75,7 +75,7 @@ abbrev pub left-by-reports : ℕ → List Report → ℕ
 left-by-reports n log = entered n log - lost n log
 
 -- The limit of an accepted order after the reports of the log: it stays as it was entered.
-abbrev pub limit-in-force : List Report → Order → Price
+unfoldable pub limit-in-force : List Report → Order → Price
 limit-in-force log o = o .entry .limit
 
 -- A side of a quote that is reported as 0 is missing.
@@ -100,9 +100,12 @@ abbrev pub quote-of : List Report → Quote
 quote-of [] = no-quote
 quote-of (r ∷ log) = quote-as (r .kind) r (quote-of log)
 
--- What prices go by after the reports of the log.
+-- What prices go by under a quote, and after the reports of the log.
+abbrev pub view-under : Quote → View
+view-under quote = quote
+
 abbrev pub view-of : List Report → View
-view-of log = quote-of log
+view-of log = view-under (quote-of log)
 
 -- The side that was active in a trade of the mark, suppressed or not.
 abbrev pub active-side : ℕ → Side

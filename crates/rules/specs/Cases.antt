@@ -3,8 +3,6 @@ use mathlib.Core.Path.{_≡_}
 use mathlib.Core.Bool.{Bool, true, false}
 use mathlib.Core.List.{List, [], _∷_, _++_, map, reverse}
 use Prim.Native.Nat.{ℕ, _+_}
-use Rattle.std.specs.declared.option.Option.{Option}
-use Rattle.std.specs.declared.option.Option.the-variants.{Some, None}
 use Rattle.types.specs.declared.calls.Call.{Call}
 use Rattle.types.specs.declared.calls.Call.the-variants.{Enter, Quote as NewQuote, Enrol}
 use Rattle.types.specs.declared.money.Price.{Price}
@@ -20,12 +18,11 @@ use Rattle.types.specs.declared.orders.StpInstruction.the-variants.{Off, Cancel
 use Rattle.types.specs.declared.orders.TimeInForce.{TimeInForce}
 use Rattle.types.specs.declared.orders.TimeInForce.the-variants as term
 use Rattle.types.specs.declared.orders.TraderId.{TraderId}
-use Rattle.types.specs.declared.quotes.Quote.{Quote}
 use Rattle.types.specs.declared.reports.CancelReason.the-variants.{SelfTrade, FillOrKill}
 use Rattle.types.specs.declared.reports.Report.{Report}
 use Rattle.types.specs.Reports.{accepted, trade, cancelled, decremented, quoted}
 use Rattle.checks.specs.Checks.{Ticks}
-use Rattle.prices.specs.Prices.{middle, capped}
+use Rattle.prices.specs.Prices.{bid-by-offer, Prices-hold}
 use Rattle.priority.specs.Priority.{omega-rule}
 use Rattle.runs.specs.Meetings.{shares}
 use Rattle.rules.specs.declared.SetUp.{SetUp}
@@ -47,9 +44,6 @@ trader letter = record { letters = 65 ∷ 65 ∷ 65 ∷ 65 ∷ 65 ∷ letter ∷
 
 abbrev pub at : ℕ → Price
 at quarters = record { quarters = quarters }
-
-abbrev pub quote : ℕ → ℕ → Quote
-quote bid offer = record { bid = Some (at bid); offer = Some (at offer) }
 
 abbrev pub number : ℕ → OrderNumber
 number n = record { number = n }
@@ -99,10 +93,7 @@ slices-of o = (o .order .number .number, o .shown .shares, o .reserve .shares)
 
 pub record Cases : Type 0 where
   pub ticks : Ticks
-  pub middle-of-4000-by-4012 : middle (quote 4000 4012) ≡ Some (at 4006)
-  pub no-middle-when-locked : middle (quote 4000 4000) ≡ None
-  pub no-middle-when-crossed : middle (quote 4004 4000) ≡ None
-  pub buy-4016-is-worth-4012 : capped Buy (quote 4000 4012) (at 4016) ≡ at 4012
+  pub prices : Prices-hold
   -- three icebergs and an order of the second one's broker
   pub own-broker-first : reported icebergs ≡
       enters 1 4004 1300 Buy ∷ enters 2 4004 2500 Buy ∷ enters 3 4004 1200 Buy ∷ enters 4 4004 2100 Sell
@@ -128,10 +119,10 @@ pub record Cases : Type 0 where
       ∷ enters 3 4004 100 Buy ∷ enters 4 4004 300 Sell ∷ sold 1 4 4004 200 ∷ sold 3 4 4004 100 ∷ []
   -- orders that rest in a crossed quote, and trade when it is uncrossed
   pub uncrossed : reported (brokers ++ (
-        NewQuote (quote 4004 4000)
+        NewQuote (bid-by-offer 4004 4000)
         ∷ plain 65 Buy term.Day 4008 100
         ∷ plain 66 Sell term.Day 3996 100
-        ∷ NewQuote (quote 4000 4008)
+        ∷ NewQuote (bid-by-offer 4000 4008)
         ∷ [])) ≡
-      quoted (quote 4004 4000) false ∷ enters 1 4008 100 Buy ∷ enters 2 3996 100 Sell ∷ quoted (quote 4000 4008) false
+      quoted (bid-by-offer 4004 4000) false ∷ enters 1 4008 100 Buy ∷ enters 2 3996 100 Sell ∷ quoted (bid-by-offer 4000 4008) false
       ∷ trade (number 1) (number 2) (at 4000) (shares 100) Buy false ∷ []

@@ -17,7 +17,7 @@ use Rattle.prices.specs.Prices.{View}
 use Rattle.priority.specs.Priority.{Rule}
 use Rattle.runs.specs.Meetings.{shares}
 use Rattle.runs.specs.Runs.{Run, run, tidied, laid-out}
-use Rattle.rules.specs.Accounts.{traded}
+use Rattle.rules.specs.Accounts.{traded, view-under}
 use Rattle.rules.specs.States.{State, Book, Made}
 
 abbrev pub noted : Order → Report
@@ -61,7 +61,7 @@ abbrev pub numbered : State → Broker → Entry → Order
 numbered st broker e = record { number = record { number = suc (st .accepted) }; broker = broker; entry = e }
 
 abbrev pub entry-book : Rule → Order → State → Book
-entry-book rule o st = by-term (o .entry .term) o (st .resting) (ran rule (st .quote) o (st .resting))
+entry-book rule o st = by-term (o .entry .term) o (st .resting) (ran rule (view-under (st .quote)) o (st .resting))
 
 unfoldable pub enter : Rule → Broker → Entry → State → Made
 enter rule broker e st =

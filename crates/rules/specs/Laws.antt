@@ -17,9 +17,9 @@ use Rattle.priority.specs.Priority.{Rule, Lawful, better}
 use Rattle.runs.specs.Lists.{In}
 use Rattle.runs.specs.Slices.{takes}
 use Rattle.rules.specs.declared.SetUp.{SetUp}
-use Rattle.rules.specs.Accounts.{lost, left-by-reports, limit-in-force, quote-of, view-of, active-side, active-of, rests}
+use Rattle.rules.specs.Accounts.{lost, left-by-reports, limit-in-force, quote-of, view-under, view-of, active-side, active-of, rests}
 use Rattle.rules.specs.States.{State}
-use Rattle.rules.specs.Served.{Outcome, served}
+use Rattle.rules.specs.Served.{served}
 use Rattle.rules.specs.Days.{Day, opening, day, Shows}
 
 abbrev pub at-price : Report → Price
@@ -73,7 +73,7 @@ pub record Day-ok (d : Day) : Type 0 where
   -- Each trade, with the reports before it, is fair.
   pub fair : (before behind : List Report) (r : Report) → reverse (d .log) ≡ before ++ (r ∷ behind) → Fair-report (d .orders) (reverse before) r
   -- The book is quiet.
-  pub quiet : Quiet (d .state .quote) (d .state .resting)
+  pub quiet : Quiet (view-under (d .state .quote)) (d .state .resting)
 
 -- It holds for every set-up, every lawful rule, every space of the channel and every list of calls.
 abbrev pub Day-law : Type 0
@@ -85,3 +85,8 @@ abbrev pub Goes-on : SetUp → Rule → Call → State → List Report → State
 Goes-on s rule c st list st′ list′ =
     (first : List Report) (space : ℕ) (calls : List Call) → Shows first (day s rule (opening space) calls) st list
     → Shows first (day s rule (opening space) (calls ++ (c ∷ []))) st′ list′ × Day-ok (day s rule (opening space) (calls ++ (c ∷ [])))
+
+-- Every call that is served as the rules say carries the law on.
+abbrev pub Calls-go-on : Type 0
+Calls-go-on = (s : SetUp) (rule : Rule) → Lawful rule → (c : Call) (st : State) (list : List Report)
+    → Goes-on s rule c st list (served s rule st c .state) (list ++ served s rule st c .reports)

@@ -25,6 +25,7 @@ use Rattle.prices.specs.Prices.{View, is-peg, may-take}
 use Rattle.runs.specs.Lists.{no-one}
 use Rattle.rules.specs.declared.SetUp.{SetUp}
 use Rattle.rules.specs.SetUps.{lot-in}
+use Rattle.rules.specs.Accounts.{view-under}
 use Rattle.rules.specs.States.{State}
 use Rattle.rules.specs.Calls.{enrolled, broker-of, has-number}
 
@@ -104,7 +105,7 @@ abbrev pub in-its-way : View → Entry → RestingOrder → Bool
 in-its-way view e o = not (is-peg (o .order .entry .kind)) && may-take view (unmarked e) (o .order .entry)
 
 abbrev pub would-take : Entry → State → Ground
-would-take e st = by-book (e .marks .«post_only» && not (no-one (in-its-way (st .quote) e) (st .resting))) book.WouldTake
+would-take e st = by-book (e .marks .«post_only» && not (no-one (in-its-way (view-under (st .quote)) e) (st .resting))) book.WouldTake
 
 abbrev pub unknown-order : Cancellation → State → Ground
 unknown-order c st = by-book (no-one (has-number (c .order .number)) (st .resting)) (book.UnknownOrder (c .order))

@@ -16,6 +16,7 @@ use Rattle.priority.specs.Priority.{Rule}
 use Rattle.runs.specs.Lists.{at-place}
 use Rattle.runs.specs.Slices.{volume-of}
 use Rattle.runs.specs.Runs.{Run, resting, run, tidied, laid-out}
+use Rattle.rules.specs.Accounts.{view-under}
 use Rattle.rules.specs.States.{State, Book, Made}
 
 -- An order on the time list, and its place there.
@@ -39,7 +40,7 @@ emptied o = resting (o .order) 0 0
 abbrev pub put-back : RestingOrder → ℕ → RestingOrder
 put-back o v = cond (eqb v (volume-of o)) o (laid-out (o .order .entry .kind) (o .order) v)
 
--- The resting order is run from its place, which it keeps.
+-- The resting order is run from its place, which it keeps; put back it shows volume, and so is not among the refreshed ones.
 unfoldable pub run-at : Rule → View → Spot → Book → Book
 run-at rule view s b =
     let o : RestingOrder = s .order in
@@ -81,10 +82,14 @@ repriced old new o = not (same-price (price old (o .order .entry)) (price new (o
 abbrev pub numbers : List RestingOrder → List ℕ
 numbers os = map (λ (o : RestingOrder). o .order .number .number) os
 
+-- An order that the new quote reprices.
+abbrev pub moved-by : Quote → State → RestingOrder → Bool
+moved-by q st = repriced (view-under (st .quote)) (view-under q)
+
 abbrev pub requoted : Rule → Bool → Quote → State → Book
 requoted rule resumed q st =
-    re-enter rule q (numbers (kept-by (repriced (st .quote) q) (st .resting)))
-    (record { resting = to-end (repriced (st .quote) q) (st .resting); log = quoted q resumed ∷ [] })
+    re-enter rule (view-under q) (numbers (kept-by (moved-by q st) (st .resting)))
+    (record { resting = to-end (moved-by q st) (st .resting); log = quoted q resumed ∷ [] })
 
 unfoldable pub requote : Rule → Bool → Quote → State → Made
 requote rule resumed q st =

@@ -56,26 +56,23 @@ served s rule st c =
 abbrev pub filled-up : SetUp → List Report → List Report
 filled-up s reports = reports ++ replicate (s .sheet - length reports) blank
 
+abbrev pub is-enrol : Call → Bool
+is-enrol (call.Enter e) = false
+is-enrol (call.Cancel c) = false
+is-enrol (call.Quote q) = false
+is-enrol call.Halt = false
+is-enrol (call.Resume q) = false
+is-enrol call.Close = false
+is-enrol (call.Enrol e) = true
+
 -- The event sheet after a call, from the one before it: enrol leaves it alone.
 abbrev pub sheet-after : SetUp → Rule → State → Call → List Report → List Report
-sheet-after s rule st (call.Enter e) sheet = filled-up s (served s rule st (call.Enter e) .reports)
-sheet-after s rule st (call.Cancel c) sheet = filled-up s (served s rule st (call.Cancel c) .reports)
-sheet-after s rule st (call.Quote q) sheet = filled-up s (served s rule st (call.Quote q) .reports)
-sheet-after s rule st call.Halt sheet = filled-up s (served s rule st call.Halt .reports)
-sheet-after s rule st (call.Resume q) sheet = filled-up s (served s rule st (call.Resume q) .reports)
-sheet-after s rule st call.Close sheet = filled-up s (served s rule st call.Close .reports)
-sheet-after s rule st (call.Enrol e) sheet = sheet
+sheet-after s rule st c sheet = cond (is-enrol c) sheet (filled-up s (served s rule st c .reports))
 
 abbrev pub unless-tried : Option ChannelFault → List RestingOrder → List RestingOrder → List RestingOrder
 unless-tried None before spare = before
 unless-tried (Some fault) before spare = spare
 
--- The spare table after a call, from the one before it: the time list from before the call, once the call was tried.
+-- The spare table after a call, from the one before it: the time list from before the call, once the call was tried; enrol leaves it alone.
 abbrev pub spare-after : SetUp → State → Call → List RestingOrder → List RestingOrder
-spare-after s st (call.Enter e) spare = unless-tried (first-fault (grounds s (call.Enter e) st)) (st .resting) spare
-spare-after s st (call.Cancel c) spare = unless-tried (first-fault (grounds s (call.Cancel c) st)) (st .resting) spare
-spare-after s st (call.Quote q) spare = unless-tried (first-fault (grounds s (call.Quote q) st)) (st .resting) spare
-spare-after s st call.Halt spare = unless-tried (first-fault (grounds s call.Halt st)) (st .resting) spare
-spare-after s st (call.Resume q) spare = unless-tried (first-fault (grounds s (call.Resume q) st)) (st .resting) spare
-spare-after s st call.Close spare = unless-tried (first-fault (grounds s call.Close st)) (st .resting) spare
-spare-after s st (call.Enrol e) spare = spare
+spare-after s st c spare = cond (is-enrol c) spare (unless-tried (first-fault (grounds s c st)) (st .resting) spare)
