@@ -128,7 +128,10 @@ fn test(passed: bool, fault: FieldFault) -> Result<(), FieldFault>
 pub fn check_trader(trader: TraderId) -> Result<(), FieldFault>
     ensures { λ r. ⌜ r ≡ trader-check trader ⌝ }
 {
-    test(are_letters(trader.letters), FieldFault::Field(CallField::Trader))
+    test(
+        are_letters(trader.letters),
+        FieldFault::Field(CallField::Trader),
+    )
 }
 
 pub fn check_broker(broker: Broker) -> Result<(), FieldFault>
@@ -144,13 +147,19 @@ pub fn check_broker(broker: Broker) -> Result<(), FieldFault>
 pub fn check_limit(kind: OrderKind, limit: Price) -> Result<(), FieldFault>
     ensures { λ r. ⌜ r ≡ limit-check kind limit ⌝ }
 {
-    test(is_limit(kind, limit.quarters), FieldFault::Price(CallField::Limit))
+    test(
+        is_limit(kind, limit.quarters),
+        FieldFault::Price(CallField::Limit),
+    )
 }
 
 pub fn check_volume(lot: Lot, volume: Volume) -> Result<(), FieldFault>
     ensures { λ r. ⌜ r ≡ volume-check lot volume ⌝ }
 {
-    test(is_volume(lot, volume.shares), FieldFault::Volume(CallField::Volume))
+    test(
+        is_volume(lot, volume.shares),
+        FieldFault::Volume(CallField::Volume),
+    )
 }
 
 pub fn check_entry(lot: Lot, entry: &Entry) -> Result<(), FieldFault>

@@ -126,10 +126,26 @@ impl FrameFault {
     {
         let layer = Layer::Frame;
         match self {
-            FrameFault::Short => Refusal { reason: Reason::Short, layer, place: 0 },
-            FrameFault::Version => Refusal { reason: Reason::Version, layer, place: 2 },
-            FrameFault::Kind => Refusal { reason: Reason::Kind, layer, place: 3 },
-            FrameFault::Length => Refusal { reason: Reason::Length, layer, place: 0 },
+            FrameFault::Short => Refusal {
+                reason: Reason::Short,
+                layer,
+                place: 0,
+            },
+            FrameFault::Version => Refusal {
+                reason: Reason::Version,
+                layer,
+                place: 2,
+            },
+            FrameFault::Kind => Refusal {
+                reason: Reason::Kind,
+                layer,
+                place: 3,
+            },
+            FrameFault::Length => Refusal {
+                reason: Reason::Length,
+                layer,
+                place: 0,
+            },
         }
     }
 }
@@ -156,7 +172,11 @@ impl FieldFault {
             FieldFault::Volume(field) => at_field(Reason::Volume, field),
             FieldFault::Display(field) => at_field(Reason::Display, field),
             FieldFault::Pairing(field) => at_field(Reason::Pairing, field),
-            FieldFault::SetUp => Refusal { reason: Reason::SetUp, layer: Layer::Field, place: 0 },
+            FieldFault::SetUp => Refusal {
+                reason: Reason::SetUp,
+                layer: Layer::Field,
+                place: 0,
+            },
         }
     }
 }
@@ -201,7 +221,11 @@ impl ChannelFault {
     {
         match self {
             ChannelFault::Book(fault) => fault.refusal(),
-            ChannelFault::Full => Refusal { reason: Reason::ChannelFull, layer: Layer::Channel, place: 0 },
+            ChannelFault::Full => Refusal {
+                reason: Reason::ChannelFull,
+                layer: Layer::Channel,
+                place: 0,
+            },
         }
     }
 }

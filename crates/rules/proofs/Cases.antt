@@ -22,7 +22,7 @@ ticks = record {
   limit-202 = refl;
   peg-202 = refl;
   limit-204 = refl;
-  peg-204 = refl
+  peg-204 = refl;
 }
 
 pub cases : Cases
@@ -34,5 +34,5 @@ cases = record {
   refreshed-then = refl;
   cancel-and-decrement = refl;
   fill-or-kill = refl;
-  uncrossed = refl
+  uncrossed = refl;
 }

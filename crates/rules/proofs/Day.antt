@@ -59,8 +59,10 @@ others-rest n m (o ∷ os) = go (eqb n (o .order .number .number)) refl (eqb m n
   where
     w : ℕ → List RestingOrder → ℕ
     w k = sum-of (λ (o : RestingOrder). on k (o .order .number .number) (volume-of o))
+
     kept : List RestingOrder
     kept = kept-by (λ o. not (has-number n o)) os
+
     go : (b : Bool) → eqb n (o .order .number .number) ≡ b → (c : Bool) → eqb m n ≡ c → (d : Bool) → eqb m (o .order .number .number) ≡ d → w m os ≡ cond c (w n os) 0 + w m kept
         → cond d (volume-of o) 0 + w m os ≡ cond c (cond b (volume-of o) 0 + w n os) 0 + w m (cond (not b) (o ∷ kept) kept)
     go true e true f true g h = omega arith
@@ -87,7 +89,7 @@ same-orders n q b c os want inv core part = record {
   volumes = inv .volumes;
   fresh = inv .fresh;
   core = core;
-  quiet = λ x y i j. inv .quiet x y (part x i) (part y j)
+  quiet = λ x y i j. inv .quiet x y (part x i) (part y j);
 }
 
 cancel-keeps : (n : OrderNumber) (st : State) (old : List Report) (os : List Order) → Holds st old os → Kept old os (cancel n st)
@@ -95,26 +97,29 @@ unfolding cancel
 cancel-keeps n st old os (want, inv) =
     let rs : List RestingOrder = st .resting in
     let gone : RestingOrder → Bool = λ o. not (has-number (n .number) o) in
-    let r : Report = cancelled n (shares (rests (n .number) rs)) why.Requested in
-    (want, same-orders _ _ _ _ os want inv
-      (record {
-        sums = λ m. omega (arith, inv .core .sums m, lost-cons m r old, others-rest (n .number) m rs);
-        wanted = λ m. omega (arith, inv .core .wanted m, entered-cons m r old);
-        listed = λ o i. inv .core .listed o (in-kept gone o rs i .0);
-        filled = λ o i. inv .core .filled o (in-kept gone o rs i .0);
-        single = λ m. omega (arith, inv .core .single m, fewer m);
-        quoted = inv .core .quoted;
-        trades = fair-cons os _ _ tt (inv .core .trades)
-      })
-      (λ o i. in-kept gone o rs i .0))
+    let r : Report = cancelled n (shares (rests (n .number) rs)) why.Requested in (
+      want,
+      same-orders _ _ _ _ os want inv
+          (record {
+            sums = λ m. omega (arith, inv .core .sums m, lost-cons m r old, others-rest (n .number) m rs);
+            wanted = λ m. omega (arith, inv .core .wanted m, entered-cons m r old);
+            listed = λ o i. inv .core .listed o (in-kept gone o rs i .0);
+            filled = λ o i. inv .core .filled o (in-kept gone o rs i .0);
+            single = λ m. omega (arith, inv .core .single m, fewer m);
+            quoted = inv .core .quoted;
+            trades = fair-cons os _ _ tt (inv .core .trades);
+          })
+          (λ o i. in-kept gone o rs i .0),
+    )
   where
     fewer : (m : ℕ) → count m (kept-by (λ o. not (has-number (n .number) o)) (st .resting)) ≤ count m (st .resting)
     fewer m = unfold count in sum-kept (counted m) (λ o. not (has-number (n .number) o)) (st .resting)
 
 halt-keeps : (st : State) (old : List Report) (os : List Order) → Holds st old os → Kept old os (halt st)
 unfolding halt
-halt-keeps st old os (want, inv) =
-    (want, same-orders _ _ _ _ os want inv
+halt-keeps st old os (want, inv) = (
+  want,
+  same-orders _ _ _ _ os want inv
       (record {
         sums = λ n. omega (arith, inv .core .sums n, lost-cons n halted old);
         wanted = λ n. omega (arith, inv .core .wanted n, entered-cons n halted old);
@@ -122,9 +127,10 @@ halt-keeps st old os (want, inv) =
         filled = inv .core .filled;
         single = inv .core .single;
         quoted = inv .core .quoted;
-        trades = fair-cons os _ _ tt (inv .core .trades)
+        trades = fair-cons os _ _ tt (inv .core .trades);
       })
-      (λ o i. i))
+      (λ o i. i),
+)
 
 -- reports that are put one after the other
 abbrev put-all : List Report → List Report → List Report
@@ -154,20 +160,22 @@ close-keeps st old os (want, inv) =
     let (l, e, q, k) = all-gone os (st .resting) old (inv .core .trades) in
     let log : List Report = gone os (st .resting) old in
     let whole : Core os (st .quote) want (book [] (closed ∷ log)) = record {
-        sums = λ n. omega (arith, inv .core .sums n, lost-cons n closed log, l n, none-rest n);
-        wanted = λ n. omega (arith, inv .core .wanted n, entered-cons n closed log, e n);
-        listed = λ o i. absurd i;
-        filled = λ o i. absurd i;
-        single = λ n. none n;
-        quoted = q ∙ inv .core .quoted;
-        trades = fair-cons os _ _ tt k
-      } in
+      sums = λ n. omega (arith, inv .core .sums n, lost-cons n closed log, l n, none-rest n);
+      wanted = λ n. omega (arith, inv .core .wanted n, entered-cons n closed log, e n);
+      listed = λ o i. absurd i;
+      filled = λ o i. absurd i;
+      single = λ n. none n;
+      quoted = q ∙ inv .core .quoted;
+      trades = fair-cons os _ _ tt k;
+    } in
     (want, same-orders _ _ (book (st .resting) old) _ os want inv (subst (λ (z : List Report). Core os (st .quote) want (book [] z)) (in-sequence (st .resting)) whole) (λ o i. absurd i))
   where
     none-rest : (n : ℕ) → rests n [] ≡ 0
     none-rest n = unfold rests in refl
+
     none : (n : ℕ) → count n [] ≤ 1
     none n = unfold count in omega arith
+
     in-sequence : (rs : List RestingOrder) → closed ∷ gone os rs old ≡ reverse (map cancelled-at-close rs ++ (closed ∷ [])) ++ old
     in-sequence rs =
         ap (λ (z : List Report). closed ∷ z) (put-reversed (map cancelled-at-close rs) old)
@@ -217,6 +225,7 @@ module _ (rule : Rule) (law : Lawful rule) where
     where
       m : Made
       m = made rule c (d .state)
+
       go : (x : Option ChannelFault) → first-fault (grounds s c (d .state) ++ room s (d .state) (length (m .reports))) ≡ x → Fine (add d (settled x (d .state) m))
       go None e = made-keeps (lot-in s) c (passed (check (lot-in s) c) (by-state s c (d .state)) (room s (d .state) (length (m .reports))) e) (d .state) (d .log) (d .orders) h
       go (Some f) e = h
@@ -227,22 +236,25 @@ module _ (rule : Rule) (law : Lawful rule) where
   day-keeps s d (c ∷ cs) h = day-keeps s (answer s rule d c) cs (answer-keeps s d c h)
 
 opening-holds : (space : ℕ) → Holds (opening space .state) [] []
-opening-holds space = (λ n. 0, record {
-  below = λ e i. absurd i;
-  unique = λ e f i j h. absurd i;
-  volumes = λ e i. absurd i;
-  fresh = λ n h. refl;
-  core = record {
-    sums = λ n. unfold lost rests in refl;
-    wanted = λ n. unfold entered in refl;
-    listed = λ o i. absurd i;
-    filled = λ o i. absurd i;
-    single = λ n. unfold count in omega arith;
-    quoted = refl;
-    trades = unfold All-fair in tt
-  };
-  quiet = λ x y i j. absurd i
-})
+opening-holds space = (
+  λ n. 0,
+  record {
+    below = λ e i. absurd i;
+    unique = λ e f i j h. absurd i;
+    volumes = λ e i. absurd i;
+    fresh = λ n h. refl;
+    core = record {
+      sums = λ n. unfold lost rests in refl;
+      wanted = λ n. unfold entered in refl;
+      listed = λ o i. absurd i;
+      filled = λ o i. absurd i;
+      single = λ n. unfold count in omega arith;
+      quoted = refl;
+      trades = unfold All-fair in tt;
+    };
+    quiet = λ x y i j. absurd i;
+  },
+)
 
 -- each report of the log, with those behind it
 each-fair : (os : List Order) (xs ys log : List Report) (r : Report) → log ≡ xs ++ (r ∷ ys) → All-fair os log → Fair-report os ys r
@@ -260,7 +272,7 @@ day-ok : (d : Day) → Holds (d .state) (d .log) (d .orders) → Day-ok d
 day-ok d (w, inv) = record {
   conserved = λ o i. omega (arith, inv .volumes o i, inv .core .sums (o .number .number));
   fair = λ before behind r e. each-fair (d .orders) (reverse behind) (reverse before) (d .log) r (turned (d .log) before behind r e) (inv .core .trades);
-  quiet = inv .quiet
+  quiet = inv .quiet;
 }
 
 pub day-law : Day-law

@@ -61,11 +61,12 @@ remainder-rests n e v = go (eqb v 0) refl
     zero-on : (b : Bool) → v ≡ 0 → 0 ≡ cond b v 0
     zero-on true h = sym h
     zero-on false h = refl
+
     go : (b : Bool) → eqb v 0 ≡ b → unfold rests in (rests n (cond b [] (laid-out (e .entry .kind) e v ∷ [])) ≡ on n (e .number .number) v)
     go true x = zero-on (eqb n (e .number .number)) (eqb-true v 0 x)
     go false x =
         let m : on n (laid-out (e .entry .kind) e v .order .number .number) (volume-of (laid-out (e .entry .kind) e v)) ≡ on n (e .number .number) v =
-          ap (λ (z : Order). on n (z .number .number) (volume-of (laid-out (e .entry .kind) e v))) (laid-order (e .entry .kind) e v) ∙ ap (on n (e .number .number)) (laid-volume (e .entry .kind) e v) in
+        ap (λ (z : Order). on n (z .number .number) (volume-of (laid-out (e .entry .kind) e v))) (laid-order (e .entry .kind) e v) ∙ ap (on n (e .number .number)) (laid-volume (e .entry .kind) e v) in
         omega (arith, m)
 
 -- The book after the run of the order e, which is in none of the rows.
@@ -94,13 +95,15 @@ module _ (orders : List Order) (q : View) (e : Order) (want : ℕ → ℕ) (rows
     sums = λ n. omega (arith, sound .sums n, more n, tidied-rests n os (r .others) rows-kept, remainder-rests n e (r .left));
     wanted = sound .wanted;
     listed = λ o i. elim (in-append o (tidied os (r .others)) (remainder e (r .left)) i) [
-        inl j ↦ known .listed (o .order) (tidied-row orders q e want rows (after old r) sound o os j)
-      | inr j ↦ subst (λ z. In z orders) (sym (remainder-in e (r .left) o j .0)) (known .active) ];
+      | inl j ↦ known .listed (o .order) (tidied-row orders q e want rows (after old r) sound o os j)
+      | inr j ↦ subst (λ z. In z orders) (sym (remainder-in e (r .left) o j .0)) (known .active)
+    ];
     filled = λ o i. elim (in-append o (tidied os (r .others)) (remainder e (r .left)) i) [
-        inl j ↦ let (x, k, f, v, w) = tidied-in o os (r .others) j in omega arith
-      | inr j ↦ remainder-in e (r .left) o j .1 ];
+      | inl j ↦ let (x, k, f, v, w) = tidied-in o os (r .others) j in omega arith
+      | inr j ↦ remainder-in e (r .left) o j .1
+    ];
     quoted = sound .quoted;
-    trades = sound .trades
+    trades = sound .trades;
   }
     where
       more : (n : ℕ) → rests n (tidied os (r .others) ++ remainder e (r .left)) ≡ rests n (tidied os (r .others)) + rests n (remainder e (r .left))
@@ -114,14 +117,14 @@ module _ (orders : List Order) (q : View) (e : Order) (want : ℕ → ℕ) (rows
   ioc-core alone = record {
     single = λ n. omega (arith, count-then n, alone n);
     sums = λ n. cut-more why.ImmediateOrCancel (λ log. want n ≡ lost n log + rests n (tidied os (r .others)))
-      (λ z. omega (arith, sound .sums n, tidied-rests n os (r .others) rows-kept, none n z))
-      (omega (arith, sound .sums n, tidied-rests n os (r .others) rows-kept, lost-cons n (cancelled (e .number) (shares (r .left)) why.ImmediateOrCancel) (r .log ++ old)));
+        (λ z. omega (arith, sound .sums n, tidied-rests n os (r .others) rows-kept, none n z))
+        (omega (arith, sound .sums n, tidied-rests n os (r .others) rows-kept, lost-cons n (cancelled (e .number) (shares (r .left)) why.ImmediateOrCancel) (r .log ++ old)));
     wanted = λ n. cut-more why.ImmediateOrCancel (λ log. entered n log ≡ want n) (λ _. sound .wanted n)
-      (omega (arith, sound .wanted n, entered-cons n (cancelled (e .number) (shares (r .left)) why.ImmediateOrCancel) (r .log ++ old)));
+        (omega (arith, sound .wanted n, entered-cons n (cancelled (e .number) (shares (r .left)) why.ImmediateOrCancel) (r .log ++ old)));
     listed = λ o i. known .listed (o .order) (tidied-row orders q e want rows (after old r) sound o os i);
     filled = λ o i. let (x, k, f, v, w) = tidied-in o os (r .others) i in omega arith;
     quoted = cut-more why.ImmediateOrCancel (λ log. quote-of log ≡ q) (λ _. sound .quoted) (sound .quoted);
-    trades = cut-more why.ImmediateOrCancel (All-fair orders) (λ _. sound .trades) (fair-cons orders _ _ tt (sound .trades))
+    trades = cut-more why.ImmediateOrCancel (All-fair orders) (λ _. sound .trades) (fair-cons orders _ _ tt (sound .trades));
   }
     where
       none : (n : ℕ) → r .left ≡ 0 → on n (e .number .number) (r .left) ≡ 0
@@ -147,14 +150,16 @@ module _ (orders : List Order) (q : View) (e : Order) (want : ℕ → ℕ) (rows
     unfolding day-book
     day-quiet done x y i j t u =
         elim (in-append x (tidied os (r .others)) (remainder e (r .left)) i) [
-          inl k ↦ elim (in-append y (tidied os (r .others)) (remainder e (r .left)) j) [ inl l ↦ tidied-quiet x y k l t u | inr l ↦ not-both y x l k u ]
-        | inr k ↦ elim (in-append y (tidied os (r .others)) (remainder e (r .left)) j) [ inl l ↦ not-both x y k l t | inr l ↦ not-own x y k l t ] ]
+          | inl k ↦ elim (in-append y (tidied os (r .others)) (remainder e (r .left)) j) [ inl l ↦ tidied-quiet x y k l t u | inr l ↦ not-both y x l k u ]
+          | inr k ↦ elim (in-append y (tidied os (r .others)) (remainder e (r .left)) j) [ inl l ↦ not-both x y k l t | inr l ↦ not-own x y k l t ]
+        ]
       where
         not-both : (x y : RestingOrder) → In x (remainder e (r .left)) → In y (tidied os (r .others)) → takes q (x .order) (y .order) ≡ true → ⊥
         not-both x y k l t =
             let (f, v, w) = remainder-in e (r .left) x k in
             let (z, m, g, c, d) = tidied-in y os (r .others) l in
             both-ways (takes q e (z .order)) (done w z m c) (subst (λ d. takes q e d ≡ true) (sym g) (subst (λ d. takes q d (y .order) ≡ true) f t))
+
         not-own : (x y : RestingOrder) → In x (remainder e (r .left)) → In y (remainder e (r .left)) → takes q (x .order) (y .order) ≡ true → ⊥
         not-own x y k l t =
             both-ways (takes q e e) (not-itself q e)
@@ -188,7 +193,7 @@ module _ (rule : Rule) (law : Lawful rule) (before : ℕ) (q : Quote) (os : List
   known = record {
     unique = unique-then;
     listed = λ d i. let (o, j, f) = in-map (λ (o : RestingOrder). o .order) d os i in inr (subst (λ z. In z orders) (sym f) (inv .core .listed o j));
-    active = inl refl
+    active = inl refl;
   }
 
   begun : Run
@@ -203,7 +208,7 @@ module _ (rule : Rule) (law : Lawful rule) (before : ℕ) (q : Quote) (os : List
         wanted = λ n. omega (arith, inv .core .wanted n, entered-cons n (noted e) old);
         same-rows = refl;
         quoted = inv .core .quoted;
-        trades = fair-cons (e ∷ orders) _ _ tt (later-order orders e old z (inv .core .trades))
+        trades = fair-cons (e ∷ orders) _ _ tt (later-order orders e old z (inv .core .trades));
       }
 
   ran-ok : Sound (e ∷ orders) q e want-then rows (after old (ran rule q e os)) × Finished q e (ran rule q e os)
@@ -211,9 +216,11 @@ module _ (rule : Rule) (law : Lawful rule) (before : ℕ) (q : Quote) (os : List
   ran-ok =
       cond-both (e .entry .marks .«post_only») _ _ (λ (r : Run). Sound (e ∷ orders) q e want-then rows (after old r) × Finished q e r)
       (λ h. (begun-sound, λ _ o _ _. post-never q e (o .order) h))
-      (λ h. (subst (Sound (e ∷ orders) q e want-then rows) (run-after rule q e old begun)
-          (run-sound rule law (e ∷ orders) q e want-then rows known (after old begun) begun-sound),
-        run-done rule law q e begun))
+      (λ h. (
+        subst (Sound (e ∷ orders) q e want-then rows) (run-after rule q e old begun)
+            (run-sound rule law (e ∷ orders) q e want-then rows known (after old begun) begun-sound),
+        run-done rule law q e begun,
+      ))
 
   back-core : Core (e ∷ orders) q want-then (onto old (killed e os))
   unfolding begun want-then
@@ -224,7 +231,7 @@ module _ (rule : Rule) (law : Lawful rule) (before : ℕ) (q : Quote) (os : List
     filled = inv .core .filled;
     single = inv .core .single;
     quoted = inv .core .quoted;
-    trades = fair-cons (e ∷ orders) _ _ tt (begun-sound .trades)
+    trades = fair-cons (e ∷ orders) _ _ tt (begun-sound .trades);
   }
 
   -- no order of the list has the new number
@@ -237,6 +244,7 @@ module _ (rule : Rule) (law : Lawful rule) (before : ℕ) (q : Quote) (os : List
       none h (suc m) x =
           let (o, i, p) = in-sum (counted n) os (omega arith) in
           absurd (not-old (o .order) (inv .core .listed o i) (sym (on-pos n (o .order .number .number) 1 p .0) ∙ h))
+
       go : (b : Bool) → eqb n (e .number .number) ≡ b → sum-of (counted n) os + cond b 1 0 ≤ 1
       go true x = omega (arith, none (eqb-true _ _ x) (sum-of (counted n) os) refl)
       go false x = omega (arith, inv .core .single n)
@@ -273,12 +281,14 @@ module _ (rule : Rule) (law : Lawful rule) (before : ℕ) (q : Quote) (os : List
 
   pub enter-keeps : (want : ℕ → ℕ) × Inv (suc before) q (onto old (by-term (e .entry .term) e os (ran rule q e os))) (e ∷ orders) want
   enter-keeps =
-      let fine = term-fine (e .entry .term) in
-      (want-then, record {
-        below = below-then;
-        unique = unique-then;
-        volumes = volumes-then;
-        fresh = fresh-then;
-        core = fine .0;
-        quiet = fine .1
-      })
+      let fine = term-fine (e .entry .term) in (
+        want-then,
+        record {
+          below = below-then;
+          unique = unique-then;
+          volumes = volumes-then;
+          fresh = fresh-then;
+          core = fine .0;
+          quiet = fine .1;
+        },
+      )

@@ -101,7 +101,7 @@ module _ (os : List Order) (e : Order) where
         bid = f .bid;
         offer = f .offer;
         peg = f .peg;
-        best = λ d p i. elim i [ inl x ↦ (λ k t pr w. absurd (omega (arith, ap (λ (z : Order). entered (z .number .number) log) x))) | inr j ↦ f .best d p j ]
+        best = λ d p i. elim i [ inl x ↦ (λ k t pr w. absurd (omega (arith, ap (λ (z : Order). entered (z .number .number) log) x))) | inr j ↦ f .best d p j ];
       }
 
   later-as : (k : ReportKind) (log : List Report) (r : Report) → entered (e .number .number) log ≡ 0 → Fair-as k os log r → Fair-as k (e ∷ os) log r

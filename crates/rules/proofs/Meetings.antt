@@ -55,7 +55,7 @@ trading-even n q a left s sup =
     let t = trading-sum (eqb n (a .number .number)) (eqb n (s .resting .order .number .number)) (s .hidden) left (s .resting .shown .shares) (s .resting .reserve .shares) in
     record {
       sums = omega (arith, l, t);
-      none = omega (arith, trade-entered n (a .entry .side) a (s .resting .order) (offered q (s .resting)) v sup)
+      none = omega (arith, trade-entered n (a .entry .side) a (s .resting .order) (offered q (s .resting)) v sup);
     }
 
 smaller-even : (n : ℕ) (a : Order) (left : ℕ) (o : RestingOrder) → Even n a o left (smaller-out a left o)
@@ -67,16 +67,19 @@ smaller-even n a left o = go (ltb left (volume-of o)) refl (ltb (volume-of o) le
     sum₁ true false x y h = omega arith
     sum₁ false true x y h = omega arith
     sum₁ false false x y h = omega arith
+
     sum₂ : (b c : Bool) (w : ℕ) → w < left → (cond b w 0 + (cond c w 0 + 0)) + cond b (left - w) 0 + cond c (0 + 0) 0 ≡ cond b left 0 + cond c w 0
     sum₂ true true w h = omega arith
     sum₂ true false w h = omega arith
     sum₂ false true w h = omega arith
     sum₂ false false w h = omega arith
+
     sum₃ : (b c : Bool) (w : ℕ) → (cond b left 0 + (cond c w 0 + 0)) + cond b 0 0 + cond c (0 + 0) 0 ≡ cond b left 0 + cond c w 0
     sum₃ true true w = omega arith
     sum₃ true false w = omega arith
     sum₃ false true w = omega arith
     sum₃ false false w = omega arith
+
     go : (b : Bool) → ltb left (volume-of o) ≡ b → (c : Bool) → ltb (volume-of o) left ≡ c → Even n a o left (unfold smaller-out in smaller-out a left o)
     go true e c f = rw e (record { sums = sum₁ (eqb n (a .number .number)) (eqb n (o .order .number .number)) (o .shown .shares) (o .reserve .shares) (ltb-true _ _ e); none = refl })
     go false e true f = rw (e, f) (record { sums = sum₂ (eqb n (a .number .number)) (eqb n (o .order .number .number)) (volume-of o) (ltb-true _ _ f); none = refl })
@@ -101,4 +104,3 @@ by-even (Some CancelOldest) n q a left s = record { sums = go (eqb n (s .resting
 pub even : (n : ℕ) (q : View) (a : Order) (left : ℕ) (s : Slice) → Even n a (s .resting) left (effect q a left s)
 unfolding effect
 even n q a left s = by-even (prevents a (s .resting .order)) n q a left s
-

@@ -90,7 +90,7 @@ module _ (rule : Rule) (law : Lawful rule) (orders : List Order) (unique : Uniqu
   known = record {
     unique = unique;
     listed = λ d i. let (o, j, f) = in-map (λ (o : RestingOrder). o .order) d (b .resting) i in subst (λ z. In z orders) (sym f) (core .listed o j);
-    active = core .listed (s .order) (at-in (b .resting) (s .place) (s .order) at)
+    active = core .listed (s .order) (at-in (b .resting) (s .place) (s .order) at);
   }
 
   begun : Run
@@ -103,7 +103,7 @@ module _ (rule : Rule) (law : Lawful rule) (orders : List Order) (unique : Uniqu
     wanted = core .wanted;
     same-rows = map-at-place (λ (o : RestingOrder). o .order) emptied (s .place) (b .resting) (λ _. refl);
     quoted = core .quoted;
-    trades = core .trades
+    trades = core .trades;
   }
 
   r : Run
@@ -141,10 +141,14 @@ module _ (rule : Rule) (law : Lawful rule) (orders : List Order) (unique : Uniqu
   unfolding put rests a
   put-rests n =
       let o : RestingOrder = put-back (s .order) (r .left) in
-      omega (arith,
+      omega (
+        arith,
         sum-at-place (λ o. on n (o .order .number .number) (volume-of o)) (λ _. o) (s .place) (empty .0) (r .others) (empty .1),
-        ap (on n (empty .0 .order .number .number)) (empty .2), on-zero n (empty .0 .order .number .number),
-        ap (λ (z : Order). on n (z .number .number) (volume-of o)) (put-entry (s .order) (r .left)), ap (on n (s .order .order .number .number)) (put-volume (s .order) (r .left)))
+        ap (on n (empty .0 .order .number .number)) (empty .2),
+        on-zero n (empty .0 .order .number .number),
+        ap (λ (z : Order). on n (z .number .number) (volume-of o)) (put-entry (s .order) (r .left)),
+        ap (on n (s .order .order .number .number)) (put-volume (s .order) (r .left)),
+      )
 
   -- each order of the tidied list is the one put back, or another of the run's list, with volume
   put-in : (o : RestingOrder) → In o (tidied (b .resting) put) → ((o .order ≡ a) × (0 < r .left)) ⊎ ((x : RestingOrder) × In x (r .others) × (x .order ≡ o .order) × (0 < volume-of x))
@@ -152,8 +156,9 @@ module _ (rule : Rule) (law : Lawful rule) (orders : List Order) (unique : Uniqu
   put-in o i =
       let (x, j, e, v, w) = tidied-in o (b .resting) put i in
       elim (in-at-place (s .place) (λ _. put-back (s .order) (r .left)) x (r .others) j) [
-        inl k ↦ inr (x, k, e, v)
-      | inr (y, k, f) ↦ inl (sym e ∙ ap (λ (z : RestingOrder). z .order) f ∙ put-entry (s .order) (r .left), omega (arith, ap volume-of f, put-volume (s .order) (r .left))) ]
+        | inl k ↦ inr (x, k, e, v)
+        | inr (y, k, f) ↦ inl (sym e ∙ ap (λ (z : RestingOrder). z .order) f ∙ put-entry (s .order) (r .left), omega (arith, ap volume-of f, put-volume (s .order) (r .left)))
+      ]
 
   -- an order of the tidied list was on the list before
   pub was : (o : RestingOrder) → In o (run-at rule q s b .resting) → (x : RestingOrder) × In x (b .resting) × (o .order ≡ x .order)
@@ -175,7 +180,7 @@ module _ (rule : Rule) (law : Lawful rule) (orders : List Order) (unique : Uniqu
     filled = λ o i. let (x, j, e, v, w) = tidied-in o (b .resting) put i in omega arith;
     single = λ n. omega (arith, core .single n, count-tidied n (b .resting) put, count-rows n put (b .resting) same);
     quoted = sound .quoted;
-    trades = sound .trades
+    trades = sound .trades;
   }
     where
       same : map (λ (o : RestingOrder). o .order) put ≡ map (λ (o : RestingOrder). o .order) (b .resting)
@@ -200,10 +205,12 @@ module _ (rule : Rule) (law : Lawful rule) (orders : List Order) (unique : Uniqu
     where
       t′ : takes q a (y .order) ≡ true
       t′ = subst (λ z. takes q z (y .order) ≡ true) e t
+
       takes-none : 0 < r .left → ⊥
       takes-none v = elim (put-in y j) [
-          inl (g, w) ↦ both-ways (takes q a (y .order)) (ap (takes q a) g ∙ not-itself q a) t′
-        | inr (z, k, g, w) ↦ both-ways (takes q a (y .order)) (ap (takes q a) (sym g) ∙ done v z k w) t′ ]
+        | inl (g, w) ↦ both-ways (takes q a (y .order)) (ap (takes q a) g ∙ not-itself q a) t′
+        | inr (z, k, g, w) ↦ both-ways (takes q a (y .order)) (ap (takes q a) (sym g) ∙ done v z k w) t′
+      ]
 
 -- The orders of a list of numbers are run, one after the other.
 
@@ -216,6 +223,7 @@ unpriced-never q a b h = go (takes q a b) refl
   where
     none : (x : Option Price) (p : Price) → x ≡ Some p → is-priced x ≡ false → ⊥
     none x p e h = both-ways (is-priced x) h (ap is-priced e)
+
     go : (c : Bool) → takes q a b ≡ c → takes q a b ≡ false
     go true e = let (p, r, f, g, c) = crossed (a .entry .side) (price q (a .entry)) (price q (b .entry)) (takes-parts q a b e .cross) in absurd (none (price q (a .entry)) p f h)
     go false e = e
@@ -231,28 +239,29 @@ module _ (rule : Rule) (law : Lawful rule) (orders : List Order) (unique : Uniqu
   found-ran n b core None e = record {
     core = core;
     was-there = λ o i. (o, i, refl);
-    takes-none = λ x y i j h t. seek-none n (b .resting) e x i h
+    takes-none = λ x y i j h t. seek-none n (b .resting) e x i h;
   }
   found-ran n b core (Some s) e =
       let (at, num) = seek-some n (b .resting) s e in
       let own : (x : RestingOrder) → In (x .order) orders → x .order .number .number ≡ n → x .order ≡ s .order .order =
-        λ x i h. unique (x .order) (s .order .order) i (core .listed (s .order) (at-in (b .resting) (s .place) (s .order) at)) (h ∙ sym num) in
+      λ x i h. unique (x .order) (s .order .order) i (core .listed (s .order) (at-in (b .resting) (s .place) (s .order) at)) (h ∙ sym num) in
       cond-both (is-priced (price q (s .order .order .entry)) && not (s .order .order .entry .marks .«post_only»)) _ _ (Ran n b)
       (λ _. record {
         core = run-at-core rule law orders unique q want old b core s at;
         was-there = was rule law orders unique q want old b core s at;
         takes-none = λ x y i j h t. idle rule law orders unique q want old b core s at x y i j
-          (own x (run-at-core rule law orders unique q want old b core s at .listed x i) h) t
+            (own x (run-at-core rule law orders unique q want old b core s at .listed x i) h) t;
       })
       (λ h. record {
         core = core;
         was-there = λ o i. (o, i, refl);
         takes-none = λ x y i j g t.
-          let f : x .order ≡ s .order .order = own x (core .listed x i) g in
-          let t′ : takes q (s .order .order) (y .order) ≡ true = subst (λ z. takes q z (y .order) ≡ true) f t in
-          elim (and-cases (is-priced (price q (s .order .order .entry))) (not (s .order .order .entry .marks .«post_only»)) h) [
-            inl k ↦ both-ways (takes q (s .order .order) (y .order)) (unpriced-never q (s .order .order) (y .order) k) t′
-          | inr k ↦ both-ways (takes q (s .order .order) (y .order)) (post-never q (s .order .order) (y .order) (not-false _ k)) t′ ]
+            let f : x .order ≡ s .order .order = own x (core .listed x i) g in
+            let t′ : takes q (s .order .order) (y .order) ≡ true = subst (λ z. takes q z (y .order) ≡ true) f t in
+            elim (and-cases (is-priced (price q (s .order .order .entry))) (not (s .order .order .entry .marks .«post_only»)) h) [
+              | inl k ↦ both-ways (takes q (s .order .order) (y .order)) (unpriced-never q (s .order .order) (y .order) k) t′
+              | inr k ↦ both-ways (takes q (s .order .order) (y .order)) (post-never q (s .order .order) (y .order) (not-false _ k)) t′
+            ];
       })
 
   rerun-ran : (n : ℕ) (b : Book) → Core orders q want (onto old b) → Ran n b (run-again rule q n b)
@@ -268,10 +277,11 @@ module _ (rule : Rule) (law : Lawful rule) (orders : List Order) (unique : Uniqu
       let fn : x .order .number .number ≡ v .order .number .number = ap (λ (z : Order). z .number .number) f in
       let gn : y .order .number .number ≡ w .order .number .number = ap (λ (z : Order). z .number .number) g in
       elim (left v w k l t′ u′) [
-        inl (inl e) ↦ absurd (ran .takes-none x y i j (fn ∙ e) t)
-      | inl (inr m) ↦ inl (subst (λ z. In z ns) (sym fn) m)
-      | inr (inl e) ↦ absurd (ran .takes-none y x j i (gn ∙ e) u)
-      | inr (inr m) ↦ inr (subst (λ z. In z ns) (sym gn) m) ]
+        | inl (inl e) ↦ absurd (ran .takes-none x y i j (fn ∙ e) t)
+        | inl (inr m) ↦ inl (subst (λ z. In z ns) (sym fn) m)
+        | inr (inl e) ↦ absurd (ran .takes-none y x j i (gn ∙ e) u)
+        | inr (inr m) ↦ inr (subst (λ z. In z ns) (sym gn) m)
+      ]
 
   all-ran : (ns : List ℕ) (b : Book) → Core orders q want (onto old b) → Left-to-run q ns (b .resting) → Core orders q want (onto old (re-enter rule q ns b)) × Quiet q (re-enter rule q ns b .resting)
   unfolding re-enter
@@ -291,8 +301,9 @@ same-price-is (Some p) (Some r) h = ap (λ (n : ℕ). Some (record { quarters = 
 in-to-end : (test : RestingOrder → Bool) (o : RestingOrder) (os : List RestingOrder) → In o (to-end test os) → In o os
 in-to-end test o os i =
     elim (in-append o (kept-by (λ o. not (test o)) os) (kept-by test os) i) [
-      inl k ↦ in-kept (λ o. not (test o)) o os k .0
-    | inr k ↦ in-kept test o os k .0 ]
+      | inl k ↦ in-kept (λ o. not (test o)) o os k .0
+      | inr k ↦ in-kept test o os k .0
+    ]
 
 module _ (q r : View) (os : List RestingOrder) (quiet : Quiet q os) where
   moved-left : Left-to-run r (numbers (kept-by (repriced q r) os)) (to-end (repriced q r) os)
@@ -300,8 +311,10 @@ module _ (q r : View) (os : List RestingOrder) (quiet : Quiet q os) where
     where
       in-x : In x os
       in-x = in-to-end (repriced q r) x os i
+
       in-y : In y os
       in-y = in-to-end (repriced q r) y os j
+
       go : (b : Bool) → repriced q r x ≡ b → (c : Bool) → repriced q r y ≡ c
           → In (x .order .number .number) (numbers (kept-by (repriced q r) os)) ⊎ In (y .order .number .number) (numbers (kept-by (repriced q r) os))
       go true e c f = inl (map-in (λ (o : RestingOrder). o .order .number .number) x (kept-by (repriced q r) os) (kept-in (repriced q r) x os in-x e))
@@ -321,27 +334,28 @@ pub requote-keeps : (rule : Rule) → Lawful rule → (resumed : Bool) (r : Quot
 requote-keeps rule law resumed r reads st old orders want inv =
     let os : List RestingOrder = st .resting in
     let done = all-ran rule law orders (inv .unique) r want old (numbers (kept-by (repriced (st .quote) r) os))
-      (record { resting = to-end (repriced (st .quote) r) os; log = quote-report r resumed ∷ [] })
-      (record {
-        sums = λ n. omega (arith, inv .core .sums n, lost-cons n (quote-report r resumed) old, same-rests n);
-        wanted = λ n. omega (arith, inv .core .wanted n, entered-cons n (quote-report r resumed) old);
-        listed = λ o i. inv .core .listed o (in-to-end (repriced (st .quote) r) o os i);
-        filled = λ o i. inv .core .filled o (in-to-end (repriced (st .quote) r) o os i);
-        single = λ n. omega (arith, inv .core .single n, same-count n);
-        quoted = reads;
-        trades = fair-cons orders _ _ tt (inv .core .trades)
-      })
-      (moved-left (st .quote) r os (inv .quiet)) in
+    (record { resting = to-end (repriced (st .quote) r) os; log = quote-report r resumed ∷ [] })
+    (record {
+      sums = λ n. omega (arith, inv .core .sums n, lost-cons n (quote-report r resumed) old, same-rests n);
+      wanted = λ n. omega (arith, inv .core .wanted n, entered-cons n (quote-report r resumed) old);
+      listed = λ o i. inv .core .listed o (in-to-end (repriced (st .quote) r) o os i);
+      filled = λ o i. inv .core .filled o (in-to-end (repriced (st .quote) r) o os i);
+      single = λ n. omega (arith, inv .core .single n, same-count n);
+      quoted = reads;
+      trades = fair-cons orders _ _ tt (inv .core .trades);
+    })
+    (moved-left (st .quote) r os (inv .quiet)) in
     record {
       below = inv .below;
       unique = inv .unique;
       volumes = inv .volumes;
       fresh = inv .fresh;
       core = done .0;
-      quiet = done .1
+      quiet = done .1;
     }
   where
     same-rests : (n : ℕ) → rests n (to-end (repriced (st .quote) r) (st .resting)) ≡ rests n (st .resting)
     same-rests n = unfold rests in sum-parted (λ (o : RestingOrder). on n (o .order .number .number) (volume-of o)) (repriced (st .quote) r) (st .resting)
+
     same-count : (n : ℕ) → count n (to-end (repriced (st .quote) r) (st .resting)) ≡ count n (st .resting)
     same-count n = unfold count in sum-parted (counted n) (repriced (st .quote) r) (st .resting)

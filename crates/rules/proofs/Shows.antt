@@ -38,7 +38,7 @@ shows-next s rule first d cs c st st′ list list′ sh a b =
     (record {
       state-is = a ∙ ap (λ z. z .state) same;
       list-is = b ∙ ap (λ z. list ++ z .reports) same ∙ ap (λ z. z ++ o .reports) (sh .list-is) ∙ append-assoc first (reverse (e .log)) (o .reports)
-        ∙ ap (λ z. first ++ z) (sym (reverse-append (reverse (o .reports)) (e .log) ∙ ap (λ z. reverse (e .log) ++ z) (reverse-reverse (o .reports))))
+          ∙ ap (λ z. first ++ z) (sym (reverse-append (reverse (o .reports)) (e .log) ∙ ap (λ z. reverse (e .log) ++ z) (reverse-reverse (o .reports))));
     })
 
 -- a call that is served exactly carries the law of the day on

@@ -124,7 +124,7 @@ module _ (rule : Rule) (law : Lawful rule) (orders : List Order) (q : View) (a :
       go false x =
           let none : on (e .number .number) (a .number .number) (st .left) ≡ 0 = ap (λ b. cond b (st .left) 0) x in
           let (o, j, p) = in-sum (λ (o : RestingOrder). on (e .number .number) (o .order .number .number) (volume-of o)) (st .others)
-            (unfold rests in omega (arith, sound .sums (e .number .number), sound .wanted (e .number .number), none)) in
+          (unfold rests in omega (arith, sound .sums (e .number .number), sound .wanted (e .number .number), none)) in
           let (m, v) = on-pos (e .number .number) (o .order .number .number) (volume-of o) p in
           let row : In (o .order) rows = subst (In (o .order)) (sound .same-rows) (map-in (λ (o : RestingOrder). o .order) o (st .others) j) in
           (o, j, known .unique (o .order) e (known .listed (o .order) row) i (sym m), v)
@@ -139,7 +139,7 @@ module _ (rule : Rule) (law : Lawful rule) (orders : List Order) (q : View) (a :
       let (o, k, x, v) = open-rests st sound e j h t in
       let (u, l, y) = has-slice q a (st .others) o k (ap (takes q a) x ∙ t) v in
       let worth : offered q (u .resting) ≡ r =
-        ap (λ (z : RestingOrder). offered q z) y ∙ ap (λ (z : Order). record { quarters = price-or-zero (price q (z .entry)) }) x ∙ ap (λ (z : Option Price). record { quarters = price-or-zero z }) er in
+      ap (λ (z : RestingOrder). offered q z) y ∙ ap (λ (z : Order). record { quarters = price-or-zero (price q (z .entry)) }) x ∙ ap (λ (z : Option Price). record { quarters = price-or-zero z }) er in
       both-ways (ahead rule q a u s) (top u l)
       (ahead-price rule law q a u s (subst (λ (z : Price). better (a .entry .side) z (offered q (s .resting)) ≡ true) (sym worth) better-so))
 
@@ -165,7 +165,7 @@ module _ (rule : Rule) (law : Lawful rule) (orders : List Order) (q : View) (a :
           bid = rw e (g .1);
           offer = rw e (λ o k. omega (arith, f .1 o k));
           peg = rw e pegs;
-          best = rw (e, me) (λ d r j k t pr w. best d r j k t pr (subst (λ (s : Side). better s r p ≡ true) (sym ax) w))
+          best = rw (e, me) (λ d r j k t pr w. best d r j k t pr (subst (λ (s : Side). better s r p ≡ true) (sym ax) w));
         }
 
     sold : active-side m ≡ Sell → a .entry .side ≡ Sell → b .entry .side ≡ Buy → Fair Sell (a .entry .limit) q pa → Fair Buy (b .entry .limit) q p → Cross Sell pa p
@@ -185,7 +185,7 @@ module _ (rule : Rule) (law : Lawful rule) (orders : List Order) (q : View) (a :
           bid = rw e (λ o k. omega (arith, f .1 o k));
           offer = rw e (g .1);
           peg = rw e (λ k. pegs (or-swap (is-peg (b .entry .kind)) (is-peg (a .entry .kind)) k));
-          best = rw (e, me) (λ d r j k t pr w. best d r j k t pr (subst (λ (s : Side). better s r p ≡ true) (sym ax) w))
+          best = rw (e, me) (λ d r j k t pr w. best d r j k t pr (subst (λ (s : Side). better s r p ≡ true) (sym ax) w));
         }
 
   fair-with : (log : List Report) → quote-of log ≡ q → (b : Order) → In b orders → (pa p : Price) (v : ℕ) (sup : Bool) → Pegs b p → Best log p
@@ -205,14 +205,14 @@ module _ (rule : Rule) (law : Lawful rule) (orders : List Order) (q : View) (a :
       let t = takes-parts q a b (ok .taken) in
       let (pa, p, ap′, rp, low) = crossed (a .entry .side) (price q (a .entry)) (price q (b .entry)) (t .cross) in
       let b-known : In b orders =
-        known .listed b (subst (In b) (sound .same-rows) (map-in (λ (o : RestingOrder). o .order) (s .resting) (st .others) (at-in (st .others) (s .place) (s .resting) (ok .at)))) in
+      known .listed b (subst (In b) (sound .same-rows) (map-in (λ (o : RestingOrder). o .order) (s .resting) (st .others) (at-in (st .others) (s .place) (s .resting) (ok .at)))) in
       let worth : offered q (s .resting) ≡ p = ap (λ (z : Option Price). record { quarters = price-or-zero z }) rp in
       let pegs : Pegs b p =
-        λ h. peg-middle (b .entry .kind) (b .entry .side) q (b .entry .limit) p rp
-          (elim (or-cases (is-peg (a .entry .kind)) (is-peg (b .entry .kind)) h) [ inl k ↦ or-peg (is-peg (a .entry .kind)) (is-peg (b .entry .kind)) (t .pegs) k | inr k ↦ k ]) in
+      λ h. peg-middle (b .entry .kind) (b .entry .side) q (b .entry .limit) p rp
+      (elim (or-cases (is-peg (a .entry .kind)) (is-peg (b .entry .kind)) h) [ inl k ↦ or-peg (is-peg (a .entry .kind)) (is-peg (b .entry .kind)) (t .pegs) k | inr k ↦ k ]) in
       subst (λ (z : Price). Fair-report orders (st .log) (trade-of (a .entry .side) a b z v sup)) (sym worth)
       (fair-with (st .log) (sound .quoted) b b-known pa p v sup pegs (subst (Best (st .log)) worth (best-price st sound s (i, top))) (a .entry .side) (b .entry .side) refl refl (t .sides)
-        (fair (a .entry .kind) (a .entry .side) q (a .entry .limit) pa ap′) (fair (b .entry .kind) (b .entry .side) q (b .entry .limit) p rp) low)
+      (fair (a .entry .kind) (a .entry .side) q (a .entry .limit) pa ap′) (fair (b .entry .kind) (b .entry .side) q (b .entry .limit) p rp) low)
 
   step : (st : Run) → Sound orders q a want rows st → (s : Slice) → Top rule q a st s → Sound orders q a want rows (meet q a st s)
   unfolding meet lost entered rests
@@ -221,12 +221,17 @@ module _ (rule : Rule) (law : Lawful rule) (orders : List Order) (q : View) (a :
       let f : Effect = effect q a (st .left) s in
       let more = effect-more orders (st .log) (sound .trades) q a (st .left) s (λ sup. fair-trade st sound s (i, top) (min (st .left) (amount s)) sup) in
       record {
-        sums = λ n. omega (arith, sound .sums n, sum-append (lost-by n) (f .reports) (st .log), even n q a (st .left) s .sums,
-          sum-at-place (λ (o : RestingOrder). on n (o .order .number .number) (volume-of o)) (holding (f .shown) (f .reserve)) (s .place) (s .resting) (st .others) (ok .at));
+        sums = λ n. omega (
+          arith,
+          sound .sums n,
+          sum-append (lost-by n) (f .reports) (st .log),
+          even n q a (st .left) s .sums,
+          sum-at-place (λ (o : RestingOrder). on n (o .order .number .number) (volume-of o)) (holding (f .shown) (f .reserve)) (s .place) (s .resting) (st .others) (ok .at),
+        );
         wanted = λ n. omega (arith, sound .wanted n, sum-append (entered-by n) (f .reports) (st .log), even n q a (st .left) s .none);
         same-rows = map-at-place (λ (o : RestingOrder). o .order) (holding (f .shown) (f .reserve)) (s .place) (st .others) (λ _. refl) ∙ sound .same-rows;
         quoted = more .0 ∙ sound .quoted;
-        trades = more .1
+        trades = more .1;
       }
 
   -- a run keeps what is sound

@@ -49,14 +49,17 @@ shared-rests n (b ∷ bs) (o ∷ os) l = go (spent o) refl (ltb 0 (volume-of o))
   where
     w : ℕ
     w = weight n o
+
     same : spent o ≡ true → weight n (refreshed b o) ≡ weight n o
     same h = unfold weight in ap (on n (o .order .number .number)) (refreshed-volume b o h)
+
     none : ltb 0 (volume-of o) ≡ false → weight n o ≡ 0
     none h = unfold weight in pick (eqb n (o .order .number .number))
       where
         pick : (d : Bool) → cond d (volume-of o) 0 ≡ 0
         pick true = omega (arith, ltb-false _ _ h)
         pick false = refl
+
     go : (x : Bool) → spent o ≡ x → (c : Bool) → ltb 0 (volume-of o) ≡ c → sum-of (weight n) (kept-by stays os) + sum-of (weight n) (refresh bs os) ≡ sum-of (weight n) os
         → sum-of (weight n) (cond (c && not x) (o ∷ kept-by stays os) (kept-by stays os)) + sum-of (weight n) (cond x (refreshed b o ∷ refresh bs os) (refresh bs os)) ≡ weight n o + sum-of (weight n) os
     go true e true f h = omega (arith, same e)
@@ -90,6 +93,7 @@ count-tidied n bs os = omega (arith, sum-append (counted n) (kept-by stays os) (
         go : (b : Bool) → sum-of (counted n) (kept-by stays os) ≤ sum-of (counted n) os → sum-of (counted n) (cond b (o ∷ kept-by stays os) (kept-by stays os)) ≤ counted n o + sum-of (counted n) os
         go true h = omega arith
         go false h = omega arith
+
     shared : (bs os : List RestingOrder) → sum-of (counted n) (kept-by stays os) + sum-of (counted n) (refresh bs os) ≤ sum-of (counted n) os
     shared [] os = omega (arith, fewer os)
     shared (b ∷ bs) [] = omega arith
@@ -118,13 +122,14 @@ pub tidied-in : (o : RestingOrder) (bs os : List RestingOrder) → In o (tidied 
 unfolding tidied
 tidied-in o bs os i =
     elim (in-append o (kept-by stays os) (refresh bs os) i) [
-      inl k ↦
-        let (h, t) = in-kept stays o os k in
-        (o, h, refl, ltb-true _ _ (and-parts (ltb 0 (volume-of o)) (not (spent o)) t .0), refl)
-    | inr k ↦
-        let (b, x, j, t, e) = in-refresh o bs os k in
-        let p = spent-parts x t in
-        (x, j, sym (ap (λ (z : RestingOrder). z .order) e), omega arith, ap volume-of e ∙ refreshed-volume b x t) ]
+      | inl k ↦
+          let (h, t) = in-kept stays o os k in
+          (o, h, refl, ltb-true _ _ (and-parts (ltb 0 (volume-of o)) (not (spent o)) t .0), refl)
+      | inr k ↦
+          let (b, x, j, t, e) = in-refresh o bs os k in
+          let p = spent-parts x t in
+          (x, j, sym (ap (λ (z : RestingOrder). z .order) e), omega arith, ap volume-of e ∙ refreshed-volume b x t)
+    ]
 
 pub laid-volume : (k : OrderKind) (o : Order) (v : ℕ) → volume-of (laid-out k o v) ≡ v
 laid-volume Limit o v = omega arith

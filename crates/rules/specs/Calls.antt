@@ -48,7 +48,7 @@ unfoldable pub cancel : OrderNumber → State → Made
 cancel n st = record {
   state = moved-to (st .session) (kept-by (λ o. not (has-number (n .number) o)) (st .resting)) st;
   reports = cancelled n (shares (rests (n .number) (st .resting))) why.Requested ∷ [];
-  orders = []
+  orders = [];
 }
 
 unfoldable pub halt : State → Made
@@ -62,14 +62,14 @@ unfoldable pub close : State → Made
 close st = record {
   state = moved-to Closed [] st;
   reports = map cancelled-at-close (st .resting) ++ (closed ∷ []);
-  orders = []
+  orders = [];
 }
 
 unfoldable pub enrol : Enrolment → State → Made
 enrol e st = record {
   state = record { session = st .session; quote = st .quote; resting = st .resting; traders = st .traders ++ (e ∷ []); accepted = st .accepted; space = st .space };
   reports = [];
-  orders = []
+  orders = [];
 }
 
 abbrev pub made : Rule → Call → State → Made

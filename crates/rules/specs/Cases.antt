@@ -63,7 +63,7 @@ entry letter side kind term limit volume display instruction key = Enter (record
   volume = shares volume;
   display = shares display;
   instruction = instruction;
-  key = record { number = key }
+  key = record { number = key };
 })
 
 abbrev pub plain : ℕ → Side → TimeInForce → ℕ → ℕ → Call
@@ -101,28 +101,28 @@ pub record Cases : Type 0 where
   pub refreshed-then : map slices-of (played icebergs .state .resting) ≡ (1, 200, 900) ∷ (2, 400, 500) ∷ (3, 300, 600) ∷ []
   -- the smaller of two orders with one key is cancelled, and the other decremented
   pub cancel-and-decrement : reported (brokers ++ (
-        plain 65 Buy term.Day 4004 100
-        ∷ entry 66 Buy Limit term.Day 4004 500 0 CancelAndDecrement 9
-        ∷ plain 67 Buy term.Day 4004 100
-        ∷ entry 66 Sell Limit term.Day 4004 700 0 CancelAndDecrement 9
-        ∷ [])) ≡
+      plain 65 Buy term.Day 4004 100
+      ∷ entry 66 Buy Limit term.Day 4004 500 0 CancelAndDecrement 9
+      ∷ plain 67 Buy term.Day 4004 100
+      ∷ entry 66 Sell Limit term.Day 4004 700 0 CancelAndDecrement 9
+      ∷ [])) ≡
       enters 1 4004 100 Buy ∷ enters 2 4004 500 Buy ∷ enters 3 4004 100 Buy ∷ enters 4 4004 700 Sell
       ∷ cancelled (number 2) (shares 500) SelfTrade ∷ decremented (number 4) (number 2) (shares 500) ∷ sold 1 4 4004 100 ∷ sold 3 4 4004 100 ∷ []
   -- a fill-or-kill order of 300 against 200, and against 300
   pub fill-or-kill : reported (brokers ++ (
-        plain 65 Buy term.Day 4004 200
-        ∷ plain 66 Sell term.FillOrKill 4004 300
-        ∷ plain 65 Buy term.Day 4004 100
-        ∷ plain 66 Sell term.FillOrKill 4004 300
-        ∷ [])) ≡
+      plain 65 Buy term.Day 4004 200
+      ∷ plain 66 Sell term.FillOrKill 4004 300
+      ∷ plain 65 Buy term.Day 4004 100
+      ∷ plain 66 Sell term.FillOrKill 4004 300
+      ∷ [])) ≡
       enters 1 4004 200 Buy ∷ enters 2 4004 300 Sell ∷ cancelled (number 2) (shares 300) FillOrKill
       ∷ enters 3 4004 100 Buy ∷ enters 4 4004 300 Sell ∷ sold 1 4 4004 200 ∷ sold 3 4 4004 100 ∷ []
   -- orders that rest in a crossed quote, and trade when it is uncrossed
   pub uncrossed : reported (brokers ++ (
-        NewQuote (bid-by-offer 4004 4000)
-        ∷ plain 65 Buy term.Day 4008 100
-        ∷ plain 66 Sell term.Day 3996 100
-        ∷ NewQuote (bid-by-offer 4000 4008)
-        ∷ [])) ≡
+      NewQuote (bid-by-offer 4004 4000)
+      ∷ plain 65 Buy term.Day 4008 100
+      ∷ plain 66 Sell term.Day 3996 100
+      ∷ NewQuote (bid-by-offer 4000 4008)
+      ∷ [])) ≡
       quoted (bid-by-offer 4004 4000) false ∷ enters 1 4008 100 Buy ∷ enters 2 3996 100 Sell ∷ quoted (bid-by-offer 4000 4008) false
       ∷ trade (number 1) (number 2) (at 4000) (shares 100) Buy false ∷ []

@@ -70,5 +70,5 @@ enter rule broker e st =
     record {
       state = record { session = st .session; quote = st .quote; resting = b .resting; traders = st .traders; accepted = suc (st .accepted); space = st .space };
       reports = reverse (b .log);
-      orders = o ∷ []
+      orders = o ∷ [];
     }

@@ -97,7 +97,7 @@ unmarked e = record {
   volume = e .volume;
   display = e .display;
   instruction = e .instruction;
-  key = e .key
+  key = e .key;
 }
 
 -- A resting limit or iceberg that the entry without its mark may take.

@@ -97,5 +97,5 @@ requote rule resumed q st =
     record {
       state = record { session = Open; quote = q; resting = b .resting; traders = st .traders; accepted = st .accepted; space = st .space };
       reports = reverse (b .log);
-      orders = []
+      orders = [];
     }

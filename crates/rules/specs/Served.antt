@@ -40,7 +40,7 @@ taken m = record {
   answer = Ok (length (m .reports));
   state = sent (length (m .reports)) (m .state);
   reports = m .reports;
-  orders = m .orders
+  orders = m .orders;
 }
 
 abbrev pub settled : Option ChannelFault → State → Made → Outcome

@@ -45,9 +45,10 @@ before-append : {X : Type 0} (x y : X) (xs ys : List X) → Before x y (xs ++ ys
 before-append x y [] ys b = inr (inr b)
 before-append x y (z ∷ xs) ys (inl (e, i)) = elim (in-append y xs ys i) [ inl k ↦ inl (inl (e, k)) | inr k ↦ inr (inl (inl e, k)) ]
 before-append x y (z ∷ xs) ys (inr b) = elim (before-append x y xs ys b) [
-    inl k ↦ inl (inr k)
+  | inl k ↦ inl (inr k)
   | inr (inl (i, j)) ↦ inr (inl (inr i, j))
-  | inr (inr k) ↦ inr (inr k) ]
+  | inr (inr k) ↦ inr (inr k)
+]
 
 before-map : {X Y : Type 0} (f : X → Y) (x y : Y) (xs : List X) → Before x y (map f xs) → (u : X) × (v : X) × Before u v xs × (x ≡ f u) × (y ≡ f v)
 before-map f x y [] b = absurd b
@@ -71,28 +72,33 @@ in-sequence : (q : View) (a : Order) (os : List RestingOrder) (s t : Slice) → 
 unfolding slices
 in-sequence q a [] s t b = absurd b
 in-sequence q a (o ∷ os) s t b = elim (before-append s t (cond (takes q a (o .order)) (slice o false ++ slice o true) []) (map later (slices q a os)) b) [
-    inl k ↦ own (takes q a (o .order)) k
+  | inl k ↦ own (takes q a (o .order)) k
   | inr (inl (i, j)) ↦
       let (u, k, e) = in-map later t (slices q a os) j in
       inl (omega (arith, own-place s (takes q a (o .order)) i, ap (λ (z : Slice). z .place) e))
   | inr (inr k) ↦
       let (u, v, c, e, f) = before-map later s t (slices q a os) k in
-      next u v e f (in-sequence q a os u v c) ]
+      next u v e f (in-sequence q a os u v c)
+]
   where
     own-place : (s : Slice) (b : Bool) → In s (cond b (slice o false ++ slice o true) []) → s .place ≡ 0
     own-place s true i = elim (in-append s (slice o false) (slice o true) i) [
-        inl k ↦ ap (λ (z : Slice). z .place) (slice-is o false s k .0)
-      | inr k ↦ ap (λ (z : Slice). z .place) (slice-is o true s k .0) ]
+      | inl k ↦ ap (λ (z : Slice). z .place) (slice-is o false s k .0)
+      | inr k ↦ ap (λ (z : Slice). z .place) (slice-is o true s k .0)
+    ]
     own-place s false i = absurd i
+
     own : (b : Bool) → Before s t (cond b (slice o false ++ slice o true) []) → Earlier s t
     own true b = elim (before-append s t (slice o false) (slice o true) b) [
-        inl k ↦ absurd (not-two o false s t k)
+      | inl k ↦ absurd (not-two o false s t k)
       | inr (inl (i, j)) ↦
           let x = slice-is o false s i .0 in
           let y = slice-is o true t j .0 in
           inr (ap (λ (z : Slice). z .place) x ∙ sym (ap (λ (z : Slice). z .place) y), ap (λ (z : Slice). z .hidden) x, ap (λ (z : Slice). z .hidden) y)
-      | inr (inr k) ↦ absurd (not-two o true s t k) ]
+      | inr (inr k) ↦ absurd (not-two o true s t k)
+    ]
     own false b = absurd b
+
     next : (u v : Slice) → s ≡ later u → t ≡ later v → Earlier u v → Earlier s t
     next u v e f (inl k) = inl (omega (arith, ap (λ (z : Slice). z .place) e, ap (λ (z : Slice). z .place) f))
     next u v e f (inr (k, h, g)) =
@@ -123,49 +129,62 @@ module _ (rule : Rule) (law : Lawful rule) (q : View) (a : Order) where
     where
       ss : List Slice
       ss = slices q a (st .others)
+
       top : In s ss × ((t : Slice) → In t ss → ahead rule q a t s ≡ false)
       top = foremost-some (ahead rule q a) s (slices q a (st .others)) e
+
       here : Open-to q a (st .others) s
       here = slice-ok q a (st .others) s (top .0)
+
       unbeaten : (t : Slice) → answer s t ≡ Level → (y : Slice) → In y ss → ahead rule q a y t ≡ false
       unbeaten t l y i =
           level-ahead (answer y t) (answer t y) (answer s t) (answer t s) (answer y s) (answer s y)
           (law .swap _ _ _) (law .swap _ _ _) (law .swap _ _ _) (law .not-behind _ _ _ _) (law .not-behind _ _ _ _) l (top .1 y i)
+
       same-place : (t : Slice) → Open-to q a (st .others) t → answer s t ≡ Level → (t ≡ s) ⊎ Before s t ss → (t ≡ s) ⊎ (s .place < t .place)
       same-place t o l (inl k) = inl k
       same-place t o l (inr b) = elim (in-sequence q a (st .others) s t b) [
-          inl k ↦ inr k
+        | inl k ↦ inr k
         | inr (k, h, g) ↦
             let r : s .resting ≡ t .resting = at-one (t .place) (s .resting) (t .resting) (st .others) (subst (λ n. At (st .others) n (s .resting)) k (here .at)) (o .at) in
-            absurd (first-not-level (answer s t) (law .by-shown (taker a) (facts q s) (facts q t) (ap (offered q) r) h g) l) ]
+            absurd (first-not-level (answer s t) (law .by-shown (taker a) (facts q s) (facts q t) (ap (offered q) r) h g) l)
+      ]
+
       side : (t : Slice) → Open-to q a (st .others) t → (x : Ahead) → answer s t ≡ x → (t ≡ s) ⊎ ((answer s t ≡ First) ⊎ ((answer s t ≡ Level) × (s .place < t .place)))
       side t o First x = inr (inl x)
       side t o Second x = absurd (both-ways true (sym (ap is-first (law .swap (taker a) (facts q s) (facts q t) ∙ ap swapped x)) ∙ top .1 t (open-in q a (st .others) t o)) refl)
       side t o Level x =
           let i = open-in q a (st .others) t o in
           elim (same-place t o x (find-first (λ x. no-one (λ y. ahead rule q a y x) ss) s t ss e i (in-no-one (λ y. ahead rule q a y t) ss (unbeaten t x)))) [
-            inl k ↦ inl k
-          | inr k ↦ inr (inr (x, k)) ]
+            | inl k ↦ inl k
+            | inr k ↦ inr (inr (x, k))
+          ]
 
   only-one-foremost : (st : Run) (s t : Slice) → Foremost rule q a st s → Foremost rule q a st t → s ≡ t
   unfolding answer
   only-one-foremost st s t f g = elim (f .first t (g .here)) [
-      inl e ↦ sym e
+    | inl e ↦ sym e
     | inr (inl e) ↦ elim (g .first s (f .here)) [
-        inl k ↦ k
+      | inl k ↦ k
       | inr (inl k) ↦ absurd (second-first (turned First First e k))
-      | inr (inr (k, l)) ↦ absurd (second-level (turned First Level e k)) ]
+      | inr (inr (k, l)) ↦ absurd (second-level (turned First Level e k))
+    ]
     | inr (inr (e, l)) ↦ elim (g .first s (f .here)) [
-        inl k ↦ k
+      | inl k ↦ k
       | inr (inl k) ↦ absurd (level-first (turned Level First e k))
-      | inr (inr (k, m)) ↦ absurd (omega arith) ] ]
+      | inr (inr (k, m)) ↦ absurd (omega arith)
+    ]
+  ]
     where
       turned : (x y : Ahead) → answer s t ≡ x → answer t s ≡ y → swapped x ≡ y
       turned x y e k = ap swapped (sym e) ∙ sym (law .swap (taker a) (facts q s) (facts q t)) ∙ k
+
       second-first : Second ≡ First → ⊥
       second-first e = let z : _≡_ {A = ℕ} 0 1 = cc in omega arith
+
       second-level : Second ≡ Level → ⊥
       second-level e = let z : _≡_ {A = ℕ} 0 1 = cc in omega arith
+
       level-first : Level ≡ First → ⊥
       level-first e = let z : _≡_ {A = ℕ} 0 1 = cc in omega arith
 

@@ -206,6 +206,7 @@ module _ {X : Type 0} (beats : X → X → Bool) (self : (x : X) → beats x x �
           above : beats x y ≡ true → (z : X) → (b : Bool) → beats z x ≡ b → beats z y ≡ false → beats z x ≡ false
           above e z true k n = absurd (both-ways (beats z y) n (top z x y k e))
           above e z false k n = k
+
           choose : (b : Bool) → beats x y ≡ b → (y : X) × In y (x ∷ w ∷ xs) × ((z : X) → In z (x ∷ w ∷ xs) → beats z y ≡ false)
           choose true e = (x, inl refl, λ z j. elim j [ inl k ↦ ap (λ v. beats v x) k ∙ self x | inr k ↦ above e z (beats z x) refl (h z k) ])
           choose false e = (y, inr i, λ z j. elim j [ inl k ↦ ap (λ v. beats v y) k ∙ e | inr k ↦ h z k ])

@@ -115,8 +115,9 @@ module _ (rule : Rule) (q : View) (a : Order) where
       let ok = slice-ok q a (st .others) s i in
       let f : Effect = effect q a (st .left) s in
       elim (at-either (s .place) k (holding (f .shown) (f .reserve)) x (s .resting) (st .others) (ok .at) at) [
-        inl e ↦ absurd (omega (arith, amount-volume s (ok .some), ap volume-of e))
-      | inr at′ ↦ (x, at′, none) ]
+        | inl e ↦ absurd (omega (arith, amount-volume s (ok .some), ap volume-of e))
+        | inr at′ ↦ (x, at′, none)
+      ]
 
   pub run-empty : (k : ℕ) (st : Run) → Empty-at k st → Empty-at k (run rule q a st)
   unfolding run
@@ -167,6 +168,7 @@ module _ (rule : Rule) (q : View) (a : Order) (old : List Report) where
     where
       onward : Option Slice → Run
       onward x = elim x [ None ↦ after old st | Some s ↦ meetings rule q a n (meet q a (after old st) s) ]
+
       go : (x : Option Slice) → ((s : Slice) → meetings rule q a n (meet q a (after old st) s) ≡ after old (meetings rule q a n (meet q a st s)))
           → onward x ≡ after old (elim x [ None ↦ st | Some s ↦ meetings rule q a n (meet q a st s) ])
       go None ih = refl

@@ -31,16 +31,19 @@ unfolding slices
 slice-ok q a [] s i = absurd i
 slice-ok q a (o ∷ os) s i =
     elim (in-append s (cond (takes q a (o .order)) (slice o false ++ slice o true) []) (map later (slices q a os)) i) [
-      inl k ↦ first (takes q a (o .order)) refl k
-    | inr k ↦ let (t, j, e) = in-map later s (slices q a os) k in behind t (slice-ok q a os t j) e ]
+      | inl k ↦ first (takes q a (o .order)) refl k
+      | inr k ↦ let (t, j, e) = in-map later s (slices q a os) k in behind t (slice-ok q a os t j) e
+    ]
   where
     from : (h : Bool) → takes q a (o .order) ≡ true → In s (slice o h) → Open-to q a (o ∷ os) s
     from h e k =
         let (i, m) = slice-is o h s k in
         subst (Open-to q a (o ∷ os)) (sym i) (record { at = refl; taken = e; some = subst (λ z. 0 < amount z) i m })
+
     first : (b : Bool) → takes q a (o .order) ≡ b → In s (cond b (slice o false ++ slice o true) []) → Open-to q a (o ∷ os) s
     first true e k = elim (in-append s (slice o false) (slice o true) k) [ inl j ↦ from false e j | inr j ↦ from true e j ]
     first false e k = absurd k
+
     behind : (t : Slice) → Open-to q a os t → s ≡ later t → Open-to q a (o ∷ os) s
     behind t r e = subst (Open-to q a (o ∷ os)) (sym e) (record { at = r .at; taken = r .taken; some = r .some })
 
@@ -58,9 +61,12 @@ pub has-slice : (q : View) (a : Order) (os : List RestingOrder) (o : RestingOrde
 unfolding slices
 has-slice q a [] o i t h = absurd i
 has-slice q a (x ∷ os) o (inl e) t h =
-    let (s, j, k) = slice-has o h in
-    (s, subst (λ x. In s (cond (takes q a (x .order)) (slice x false ++ slice x true) [] ++ map later (slices q a os))) e
-      (rw t (in-left s (slice o false ++ slice o true) (map later (slices q a os)) j)), k)
+    let (s, j, k) = slice-has o h in (
+      s,
+      subst (λ x. In s (cond (takes q a (x .order)) (slice x false ++ slice x true) [] ++ map later (slices q a os))) e
+          (rw t (in-left s (slice o false ++ slice o true) (map later (slices q a os)) j)),
+      k,
+    )
 has-slice q a (x ∷ os) o (inr i) t h =
     let (s, j, k) = has-slice q a os o i t h in
     (later s, in-right (later s) (cond (takes q a (x .order)) (slice x false ++ slice x true) []) (map later (slices q a os)) (map-in later s (slices q a os) j), k)
@@ -116,4 +122,3 @@ module _ (rule : Rule) (law : Lawful rule) (q : View) (a : Order) where
   pub ahead-price : (s t : Slice) → better (a .entry .side) (facts q s .price) (facts q t .price) ≡ true → ahead rule q a s t ≡ true
   unfolding ahead
   ahead-price s t h = ap is-first (law .by-price (taker a) (facts q s) (facts q t) h)
-

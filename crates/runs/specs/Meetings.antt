@@ -42,7 +42,7 @@ trading view a left s suppressed =
       left = left - v;
       shown = cond (s .hidden) (s .resting .shown .shares) (s .resting .shown .shares - v);
       reserve = cond (s .hidden) (s .resting .reserve .shares - v) (s .resting .reserve .shares);
-      reports = trade-of (a .entry .side) a (s .resting .order) (offered view (s .resting)) v suppressed ∷ []
+      reports = trade-of (a .entry .side) a (s .resting .order) (offered view (s .resting)) v suppressed ∷ [];
     }
 
 abbrev pub stopped : Order → ℕ → Report
@@ -56,20 +56,20 @@ smaller-out a left o =
       left = 0;
       shown = o .shown .shares - left;
       reserve = o .reserve .shares - (left - o .shown .shares);
-      reports = decremented (o .order .number) (a .number) (shares left) ∷ stopped a left ∷ []
+      reports = decremented (o .order .number) (a .number) (shares left) ∷ stopped a left ∷ [];
     })
     (cond (ltb (volume-of o) left)
     (record {
       left = left - volume-of o;
       shown = 0;
       reserve = 0;
-      reports = decremented (a .number) (o .order .number) (shares (volume-of o)) ∷ stopped (o .order) (volume-of o) ∷ []
+      reports = decremented (a .number) (o .order .number) (shares (volume-of o)) ∷ stopped (o .order) (volume-of o) ∷ [];
     })
     (record {
       left = 0;
       shown = 0;
       reserve = 0;
-      reports = stopped a left ∷ stopped (o .order) (volume-of o) ∷ []
+      reports = stopped a left ∷ stopped (o .order) (volume-of o) ∷ [];
     }))
 
 abbrev pub active-out : Order → ℕ → RestingOrder → Effect

@@ -59,7 +59,7 @@ facts view s = record {
   hidden = s .hidden;
   peg = is-peg (s .resting .order .entry .kind);
   broker = s .resting .order .broker;
-  marks = s .resting .order .entry .marks
+  marks = s .resting .order .entry .marks;
 }
 
 -- The first slice is ahead of the second.

@@ -94,7 +94,14 @@ impl Report {
         }
     }
 
-    pub fn trade(buyer: OrderNumber, seller: OrderNumber, price: Price, volume: Volume, active: Side, suppressed: bool) -> Report
+    pub fn trade(
+        buyer: OrderNumber,
+        seller: OrderNumber,
+        price: Price,
+        volume: Volume,
+        active: Side,
+        suppressed: bool,
+    ) -> Report
         ensures { λ r. ⌜ r ≡ trade buyer seller price volume active suppressed ⌝ }
     {
         let side = active.mark();
