@@ -96,6 +96,8 @@ module _ (os : List Order) (e : Order) where
         seller-number = f .seller-number;
         buyer-side = f .buyer-side;
         seller-side = f .seller-side;
+        buyer-has = f .buyer-has;
+        seller-has = f .seller-has;
         low = f .low;
         high = f .high;
         bid = f .bid;

@@ -6,6 +6,7 @@ use mathlib.Core.List.{List, [], _∷_, _++_, map}
 use Prim.Native.Nat.{ℕ, zero, suc, _+_, _-_, _<_, _≤_}
 use native.Mathlib.Omega.{arith}
 use lib.Dec.{eqb, leb, ltb}
+use Rattle.std.specs.Options.{isSome}
 use Rattle.std.specs.declared.option.Option.{Option}
 use Rattle.std.specs.declared.option.Option.the-variants.{Some, None}
 use Rattle.std.specs.shelf.Lists.{kept-by}
@@ -26,7 +27,7 @@ use Rattle.runs.proofs.Runs.{run-done, run-empty, after, run-after}
 use Rattle.rules.specs.Accounts.{on, lost, entered, rests, quote-of}
 use Rattle.rules.specs.Laws.{Quiet}
 use Rattle.rules.specs.States.{State, Book}
-use Rattle.rules.specs.Requotes.{Spot, further, seek, emptied, put-back, run-at, is-priced, if-resting, run-again, re-enter, to-end, same-price, repriced, numbers, moved-by, requoted}
+use Rattle.rules.specs.Requotes.{Spot, further, seek, emptied, put-back, run-at, if-resting, run-again, re-enter, to-end, same-price, repriced, numbers, moved-by, requoted}
 use Rattle.rules.proofs.Prices.{takes-parts, crossed, not-itself, post-never, takes-same}
 use Rattle.rules.proofs.Sound.{All-fair, Sound, Known, run-sound}
 use Rattle.rules.proofs.Tidied.{rows-of, counted, count, count-tidied, tidied-rests, tidied-in, laid-volume, laid-order}
@@ -218,11 +219,11 @@ module _ (rule : Rule) (law : Lawful rule) (orders : List Order) (unique : Uniqu
 abbrev pub Left-to-run : View → List ℕ → List RestingOrder → Type 0
 Left-to-run q ns os = (x y : RestingOrder) → In x os → In y os → takes q (x .order) (y .order) ≡ true → takes q (y .order) (x .order) ≡ true → In (x .order .number .number) ns ⊎ In (y .order .number .number) ns
 
-unpriced-never : (q : View) (a b : Order) → is-priced (price q (a .entry)) ≡ false → takes q a b ≡ false
+unpriced-never : (q : View) (a b : Order) → isSome (price q (a .entry)) ≡ false → takes q a b ≡ false
 unpriced-never q a b h = go (takes q a b) refl
   where
-    none : (x : Option Price) (p : Price) → x ≡ Some p → is-priced x ≡ false → ⊥
-    none x p e h = both-ways (is-priced x) h (ap is-priced e)
+    none : (x : Option Price) (p : Price) → x ≡ Some p → isSome x ≡ false → ⊥
+    none x p e h = both-ways (isSome x) h (ap isSome e)
 
     go : (c : Bool) → takes q a b ≡ c → takes q a b ≡ false
     go true e = let (p, r, f, g, c) = crossed (a .entry .side) (price q (a .entry)) (price q (b .entry)) (takes-parts q a b e .cross) in absurd (none (price q (a .entry)) p f h)
@@ -245,7 +246,7 @@ module _ (rule : Rule) (law : Lawful rule) (orders : List Order) (unique : Uniqu
       let (at, num) = seek-some n (b .resting) s e in
       let own : (x : RestingOrder) → In (x .order) orders → x .order .number .number ≡ n → x .order ≡ s .order .order =
       λ x i h. unique (x .order) (s .order .order) i (core .listed (s .order) (at-in (b .resting) (s .place) (s .order) at)) (h ∙ sym num) in
-      cond-both (is-priced (price q (s .order .order .entry)) && not (s .order .order .entry .marks .«post_only»)) _ _ (Ran n b)
+      cond-both (isSome (price q (s .order .order .entry)) && not (s .order .order .entry .marks .«post_only»)) _ _ (Ran n b)
       (λ _. record {
         core = run-at-core rule law orders unique q want old b core s at;
         was-there = was rule law orders unique q want old b core s at;
@@ -258,7 +259,7 @@ module _ (rule : Rule) (law : Lawful rule) (orders : List Order) (unique : Uniqu
         takes-none = λ x y i j g t.
             let f : x .order ≡ s .order .order = own x (core .listed x i) g in
             let t′ : takes q (s .order .order) (y .order) ≡ true = subst (λ z. takes q z (y .order) ≡ true) f t in
-            elim (and-cases (is-priced (price q (s .order .order .entry))) (not (s .order .order .entry .marks .«post_only»)) h) [
+            elim (and-cases (isSome (price q (s .order .order .entry))) (not (s .order .order .entry .marks .«post_only»)) h) [
               | inl k ↦ both-ways (takes q (s .order .order) (y .order)) (unpriced-never q (s .order .order) (y .order) k) t′
               | inr k ↦ both-ways (takes q (s .order .order) (y .order)) (post-never q (s .order .order) (y .order) (not-false _ k)) t′
             ];

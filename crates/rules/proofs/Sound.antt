@@ -8,7 +8,7 @@ use native.Mathlib.Omega.{arith}
 use lib.Dec.{eqb, leb, ltb}
 use Rattle.std.specs.declared.option.Option.{Option}
 use Rattle.std.specs.declared.option.Option.the-variants.{Some, None}
-use Rattle.std.proofs.shelf.Tests.{both-ways, eqb-true, or-cases, cond-both}
+use Rattle.std.proofs.shelf.Tests.{both-ways, eqb-true, eq-eqb, or-cases, cond-both}
 use Rattle.types.specs.declared.money.Price.{Price}
 use Rattle.types.specs.declared.orders.Order.{Order}
 use Rattle.types.specs.declared.orders.RestingOrder.{RestingOrder}
@@ -25,7 +25,7 @@ use Rattle.runs.specs.Lists.{In, At, sum-of}
 use Rattle.runs.specs.Slices.{Slice, volume-of, amount, takes, slices, offered, facts, ahead}
 use Rattle.runs.specs.Meetings.{Effect, trade-of, trading, smaller-out, prevents, by-instruction, effect}
 use Rattle.runs.specs.Runs.{Run, holding, meet, run}
-use Rattle.runs.proofs.Lists.{at-in, in-map, map-in, sum-append, sum-at-place, map-at-place, in-sum}
+use Rattle.runs.proofs.Lists.{at-in, in-map, map-in, sum-append, sum-at-place, map-at-place, in-sum, in-sum-le}
 use Rattle.runs.proofs.Slices.{slice-ok, has-slice, ahead-price}
 use Rattle.runs.proofs.Runs.{Top, run-keep}
 use Rattle.rules.specs.Accounts.{on, lost-by, entered-by, lost, entered, left-by-reports, limit-in-force, rests, quote-of, view-of, active-side, active-of}
@@ -104,6 +104,13 @@ limit-stays : (log : List Report) (o : Order) → limit-in-force log o ≡ o .en
 unfolding limit-in-force
 limit-stays log o = refl
 
+amount-within : (s : Slice) → amount s ≤ volume-of (s .resting)
+amount-within s = go (s .hidden)
+  where
+    go : (b : Bool) → cond b (s .resting .reserve .shares) (s .resting .shown .shares) ≤ s .resting .shown .shares + s .resting .reserve .shares
+    go true = omega arith
+    go false = omega arith
+
 marked : (s : Side) (sup : Bool) → active-side (side-mark s + cond sup 4 0) ≡ s
 marked Buy true = refl
 marked Buy false = refl
@@ -147,7 +154,8 @@ module _ (rule : Rule) (law : Lawful rule) (orders : List Order) (q : View) (a :
   Pegs b p = (is-peg (a .entry .kind) || is-peg (b .entry .kind)) ≡ true → middle q ≡ Some p
 
   -- the trade with an order b at its price p is fair
-  module _ (log : List Report) (e : quote-of log ≡ q) (b : Order) (i : In b orders) (pa p : Price) (v m : ℕ) (pegs : Pegs b p) (best : Best log p) where
+  module _ (log : List Report) (e : quote-of log ≡ q) (b : Order) (i : In b orders) (pa p : Price) (v m : ℕ) (pegs : Pegs b p) (best : Best log p)
+      (own : v ≤ left-by-reports (a .number .number) log) (its : v ≤ left-by-reports (b .number .number) log) where
     bought : active-side m ≡ Buy → a .entry .side ≡ Buy → b .entry .side ≡ Sell → Fair Buy (a .entry .limit) q pa → Fair Sell (b .entry .limit) q p → Cross Buy pa p
         → Fair-trade orders log (record { kind = kind.Trade; order = a .number .number; other = b .number .number; price = p .quarters; volume = v; mark = m })
     bought me ax by f g l =
@@ -160,6 +168,8 @@ module _ (rule : Rule) (law : Lawful rule) (orders : List Order) (q : View) (a :
           seller-number = refl;
           buyer-side = ax;
           seller-side = by;
+          buyer-has = own;
+          seller-has = its;
           low = rw (limit-stays log b) (g .0);
           high = rw (limit-stays log a) (omega (arith, f .0));
           bid = rw e (g .1);
@@ -180,6 +190,8 @@ module _ (rule : Rule) (law : Lawful rule) (orders : List Order) (q : View) (a :
           seller-number = refl;
           buyer-side = by;
           seller-side = ax;
+          buyer-has = its;
+          seller-has = own;
           low = rw (limit-stays log a) (omega (arith, f .0));
           high = rw (limit-stays log b) (g .0);
           bid = rw e (λ o k. omega (arith, f .1 o k));
@@ -189,17 +201,32 @@ module _ (rule : Rule) (law : Lawful rule) (orders : List Order) (q : View) (a :
         }
 
   fair-with : (log : List Report) → quote-of log ≡ q → (b : Order) → In b orders → (pa p : Price) (v : ℕ) (sup : Bool) → Pegs b p → Best log p
+      → v ≤ left-by-reports (a .number .number) log → v ≤ left-by-reports (b .number .number) log
       → (x y : Side) → a .entry .side ≡ x → b .entry .side ≡ y → opposite x y ≡ true → Fair x (a .entry .limit) q pa → Fair y (b .entry .limit) q p → Cross x pa p
       → Fair-report orders log (trade-of x a b p v sup)
-  fair-with log e b i pa p v sup m h Buy Buy ax by o f g l = absurd (both-ways false refl o)
-  fair-with log e b i pa p v sup m h Sell Sell ax by o f g l = absurd (both-ways false refl o)
-  fair-with log e b i pa p v sup m h Buy Sell ax by o f g l = bought log e b i pa p v _ m h (marked Buy sup) ax by f g l
-  fair-with log e b i pa p v sup m h Sell Buy ax by o f g l = sold log e b i pa p v _ m h (marked Sell sup) ax by f g l
+  fair-with log e b i pa p v sup m h own its Buy Buy ax by o f g l = absurd (both-ways false refl o)
+  fair-with log e b i pa p v sup m h own its Sell Sell ax by o f g l = absurd (both-ways false refl o)
+  fair-with log e b i pa p v sup m h own its Buy Sell ax by o f g l = bought log e b i pa p v _ m h own its (marked Buy sup) ax by f g l
+  fair-with log e b i pa p v sup m h own its Sell Buy ax by o f g l = sold log e b i pa p v _ m h own its (marked Sell sup) ax by f g l
+
+  -- the reports leave the active order what is left of it, and a resting one its volume
+  active-has : (st : Run) → Sound orders q a want rows st → st .left ≤ left-by-reports (a .number .number) (st .log)
+  active-has st sound =
+      let n : ℕ = a .number .number in
+      let here : on n n (st .left) ≡ st .left = ap (λ b. cond b (st .left) 0) (eq-eqb n n refl) in
+      omega (arith, sound .sums n, sound .wanted n, here)
+
+  resting-has : (st : Run) → Sound orders q a want rows st → (o : RestingOrder) → In o (st .others) → volume-of o ≤ left-by-reports (o .order .number .number) (st .log)
+  unfolding rests
+  resting-has st sound o i =
+      let n : ℕ = o .order .number .number in
+      let here : on n n (volume-of o) ≡ volume-of o = ap (λ b. cond b (volume-of o) 0) (eq-eqb n n refl) in
+      omega (arith, sound .sums n, sound .wanted n, here, in-sum-le (λ (o : RestingOrder). on n (o .order .number .number) (volume-of o)) o (st .others) i)
 
   -- the trade with the slice that no other is ahead of is fair
-  fair-trade : (st : Run) → Sound orders q a want rows st → (s : Slice) → Top rule q a st s → (v : ℕ) (sup : Bool)
+  fair-trade : (st : Run) → Sound orders q a want rows st → (s : Slice) → Top rule q a st s → (v : ℕ) → v ≤ st .left → v ≤ amount s → (sup : Bool)
       → Fair-report orders (st .log) (trade-of (a .entry .side) a (s .resting .order) (offered q (s .resting)) v sup)
-  fair-trade st sound s (i, top) v sup =
+  fair-trade st sound s (i, top) v less-own less-its sup =
       let b : Order = s .resting .order in
       let ok = slice-ok q a (st .others) s i in
       let t = takes-parts q a b (ok .taken) in
@@ -207,11 +234,14 @@ module _ (rule : Rule) (law : Lawful rule) (orders : List Order) (q : View) (a :
       let b-known : In b orders =
       known .listed b (subst (In b) (sound .same-rows) (map-in (λ (o : RestingOrder). o .order) (s .resting) (st .others) (at-in (st .others) (s .place) (s .resting) (ok .at)))) in
       let worth : offered q (s .resting) ≡ p = ap (λ (z : Option Price). record { quarters = price-or-zero z }) rp in
+      let own : v ≤ left-by-reports (a .number .number) (st .log) = omega (arith, active-has st sound) in
+      let its : v ≤ left-by-reports (b .number .number) (st .log) =
+      omega (arith, amount-within s, resting-has st sound (s .resting) (at-in (st .others) (s .place) (s .resting) (ok .at))) in
       let pegs : Pegs b p =
       λ h. peg-middle (b .entry .kind) (b .entry .side) q (b .entry .limit) p rp
       (elim (or-cases (is-peg (a .entry .kind)) (is-peg (b .entry .kind)) h) [ inl k ↦ or-peg (is-peg (a .entry .kind)) (is-peg (b .entry .kind)) (t .pegs) k | inr k ↦ k ]) in
       subst (λ (z : Price). Fair-report orders (st .log) (trade-of (a .entry .side) a b z v sup)) (sym worth)
-      (fair-with (st .log) (sound .quoted) b b-known pa p v sup pegs (subst (Best (st .log)) worth (best-price st sound s (i, top))) (a .entry .side) (b .entry .side) refl refl (t .sides)
+      (fair-with (st .log) (sound .quoted) b b-known pa p v sup pegs (subst (Best (st .log)) worth (best-price st sound s (i, top))) own its (a .entry .side) (b .entry .side) refl refl (t .sides)
       (fair (a .entry .kind) (a .entry .side) q (a .entry .limit) pa ap′) (fair (b .entry .kind) (b .entry .side) q (b .entry .limit) p rp) low)
 
   step : (st : Run) → Sound orders q a want rows st → (s : Slice) → Top rule q a st s → Sound orders q a want rows (meet q a st s)
@@ -219,7 +249,7 @@ module _ (rule : Rule) (law : Lawful rule) (orders : List Order) (q : View) (a :
   step st sound s (i, top) =
       let ok = slice-ok q a (st .others) s i in
       let f : Effect = effect q a (st .left) s in
-      let more = effect-more orders (st .log) (sound .trades) q a (st .left) s (λ sup. fair-trade st sound s (i, top) (min (st .left) (amount s)) sup) in
+      let more = effect-more orders (st .log) (sound .trades) q a (st .left) s (λ sup. fair-trade st sound s (i, top) (min (st .left) (amount s)) (omega arith) (omega arith) sup) in
       record {
         sums = λ n. omega (
           arith,

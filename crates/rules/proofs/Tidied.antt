@@ -14,9 +14,10 @@ use Rattle.types.specs.declared.orders.Order.{Order}
 use Rattle.types.specs.declared.orders.OrderKind.{OrderKind}
 use Rattle.types.specs.declared.orders.OrderKind.the-variants.{Limit, Iceberg, Peg}
 use Rattle.types.specs.declared.orders.RestingOrder.{RestingOrder}
+use Rattle.checks.specs.Values.{is-iceberg}
 use Rattle.runs.specs.Lists.{In, sum-of}
 use Rattle.runs.specs.Slices.{volume-of}
-use Rattle.runs.specs.Runs.{is-iceberg, spent, stays, refreshed, refresh, tidied, laid-out}
+use Rattle.runs.specs.Runs.{spent, stays, refreshed, refresh, tidied, laid-out}
 use Rattle.runs.proofs.Lists.{in-append, in-kept, sum-append}
 use Rattle.rules.specs.Accounts.{on, rests}
 

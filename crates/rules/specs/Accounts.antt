@@ -34,6 +34,7 @@ entered-as kind.Quote n r = 0
 entered-as kind.Halted n r = 0
 entered-as kind.Closed n r = 0
 
+-- What it trades of the order n.
 abbrev pub traded-as : ReportKind → ℕ → Report → ℕ
 traded-as kind.Blank n r = 0
 traded-as kind.Accepted n r = 0
@@ -44,6 +45,7 @@ traded-as kind.Quote n r = 0
 traded-as kind.Halted n r = 0
 traded-as kind.Closed n r = 0
 
+-- What it takes of the order n in all.
 abbrev pub lost-as : ReportKind → ℕ → Report → ℕ
 lost-as kind.Blank n r = 0
 lost-as kind.Accepted n r = 0
@@ -54,12 +56,14 @@ lost-as kind.Quote n r = 0
 lost-as kind.Halted n r = 0
 lost-as kind.Closed n r = 0
 
+-- What a report enters of the order n, and what it takes of it.
 abbrev pub entered-by : ℕ → Report → ℕ
 entered-by n r = entered-as (r .kind) n r
 
 abbrev pub lost-by : ℕ → Report → ℕ
 lost-by n r = lost-as (r .kind) n r
 
+-- What the reports enter of the order n, and what they trade of it.
 unfoldable pub entered : ℕ → List Report → ℕ
 entered n log = sum-of (entered-by n) log
 
@@ -82,6 +86,7 @@ limit-in-force log o = o .entry .limit
 abbrev pub side-reported : ℕ → Option Price
 side-reported p = cond (eqb p 0) None (Some (record { quarters = p }))
 
+-- A QUOTE report changes the quote in force, and no other report does.
 abbrev pub quote-as : ReportKind → Report → Quote → Quote
 quote-as kind.Blank r q = q
 quote-as kind.Accepted r q = q
@@ -92,6 +97,7 @@ quote-as kind.Quote r q = record { bid = side-reported (r .price); offer = side-
 quote-as kind.Halted r q = q
 quote-as kind.Closed r q = q
 
+-- Both sides are missing.
 abbrev pub no-quote : Quote
 no-quote = record { bid = None; offer = None }
 
@@ -111,6 +117,7 @@ view-of log = view-under (quote-of log)
 abbrev pub active-side : ℕ → Side
 active-side mark = cond (eqb (mark % 4) 1) Buy Sell
 
+-- The order of the active side.
 abbrev pub active-of : Side → Order → Order → Order
 active-of Buy buyer seller = buyer
 active-of Sell buyer seller = seller

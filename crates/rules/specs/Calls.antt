@@ -32,6 +32,7 @@ use Rattle.rules.specs.Requotes.{requote}
 abbrev pub enrolled : TraderId → List Enrolment → Option Enrolment
 enrolled t es = find (λ (e : Enrolment). sameBytes (t .letters) (e .trader .letters)) es
 
+-- The broker of an enrolled trader.
 abbrev pub broker-of : Option Enrolment → Broker
 broker-of None = record { number = 0 }
 broker-of (Some e) = e .broker
@@ -40,6 +41,7 @@ broker-of (Some e) = e .broker
 abbrev pub moved-to : SessionState → List RestingOrder → State → State
 moved-to session os st = record { session = session; quote = st .quote; resting = os; traders = st .traders; accepted = st .accepted; space = st .space }
 
+-- It is the order of the number n.
 abbrev pub has-number : ℕ → RestingOrder → Bool
 has-number n o = eqb n (o .order .number .number)
 
@@ -51,9 +53,11 @@ cancel n st = record {
   orders = [];
 }
 
+-- The session halts.
 unfoldable pub halt : State → Made
 halt st = record { state = moved-to Halted (st .resting) st; reports = halted ∷ []; orders = [] }
 
+-- What rests of an order is cancelled at the close.
 abbrev pub cancelled-at-close : RestingOrder → Report
 cancelled-at-close o = cancelled (o .order .number) (shares (volume-of o)) why.Close
 
@@ -65,6 +69,7 @@ close st = record {
   orders = [];
 }
 
+-- The trader is enrolled, and nothing is reported.
 unfoldable pub enrol : Enrolment → State → Made
 enrol e st = record {
   state = record { session = st .session; quote = st .quote; resting = st .resting; traders = st .traders ++ (e ∷ []); accepted = st .accepted; space = st .space };
@@ -72,6 +77,7 @@ enrol e st = record {
   orders = [];
 }
 
+-- Each call, where nothing speaks against it.
 abbrev pub made : Rule → Call → State → Made
 made rule (call.Enter e) st = enter rule (broker-of (enrolled (e .trader) (st .traders))) e st
 made rule (call.Cancel c) st = cancel (c .order) st

@@ -28,6 +28,7 @@ use Rattle.runs.specs.Meetings.{shares}
 use Rattle.rules.specs.declared.SetUp.{SetUp}
 use Rattle.rules.specs.Days.{Day, opening, day}
 
+-- A small book.
 abbrev pub usual : SetUp
 usual = record { lot = 100; «day_limit» = 1000; table = 10; sheet = 20; traders = 10; orders = 10 }
 
@@ -35,6 +36,7 @@ usual = record { lot = 100; «day_limit» = 1000; table = 10; sheet = 20; trader
 abbrev pub played : List Call → Day
 played calls = day usual omega-rule (opening 100) calls
 
+-- Its reports in sequence.
 abbrev pub reported : List Call → List Report
 reported calls = reverse (played calls .log)
 
@@ -42,12 +44,14 @@ reported calls = reverse (played calls .log)
 abbrev pub trader : ℕ → TraderId
 trader letter = record { letters = 65 ∷ 65 ∷ 65 ∷ 65 ∷ 65 ∷ letter ∷ [] }
 
+-- A price, and an order number, by its number.
 abbrev pub at : ℕ → Price
 at quarters = record { quarters = quarters }
 
 abbrev pub number : ℕ → OrderNumber
 number n = record { number = n }
 
+-- A trader of the broker is enrolled.
 abbrev pub joins : ℕ → ℕ → Call
 joins letter broker = Enrol (record { trader = trader letter; broker = record { number = broker }; «latency_sensitive» = false })
 
@@ -66,6 +70,7 @@ entry letter side kind term limit volume display instruction key = Enter (record
   key = record { number = key };
 })
 
+-- A limit order without self-trade prevention.
 abbrev pub plain : ℕ → Side → TimeInForce → ℕ → ℕ → Call
 plain letter side term limit volume = entry letter side Limit term limit volume 0 Off 0
 
@@ -79,18 +84,23 @@ icebergs =
     ∷ plain 66 Sell term.ImmediateOrCancel 4004 2100
     ∷ []
 
+-- The three traders of the later cases.
 abbrev pub brokers : List Call
 brokers = joins 65 123 ∷ joins 66 124 ∷ joins 67 125 ∷ []
 
+-- A trade with the seller active.
 abbrev pub sold : ℕ → ℕ → ℕ → ℕ → Report
 sold buyer seller p v = trade (number buyer) (number seller) (at p) (shares v) Sell false
 
+-- The report of an accepted order.
 abbrev pub enters : ℕ → ℕ → ℕ → Side → Report
 enters n limit v side = accepted (number n) (at limit) (shares v) side
 
+-- Number, shown volume and reserve.
 abbrev pub slices-of : RestingOrder → ℕ × ℕ × ℕ
 slices-of o = (o .order .number .number, o .shown .shares, o .reserve .shares)
 
+-- All worked cases together.
 pub record Cases : Type 0 where
   pub ticks : Ticks
   pub prices : Prices-hold

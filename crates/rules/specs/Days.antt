@@ -20,12 +20,15 @@ pub record Day : Type 0 where
 abbrev pub opening : ℕ → Day
 opening space = record { state = opened space; log = []; orders = [] }
 
+-- The day with one more call.
 abbrev pub add : Day → Outcome → Day
 add d o = record { state = o .state; log = reverse (o .reports) ++ d .log; orders = o .orders ++ d .orders }
 
+-- One call of the day is served in the state that the calls before it left.
 abbrev pub answer : SetUp → Rule → Day → Call → Day
 answer s rule d c = add d (served s rule (d .state) c)
 
+-- The calls are served one after the other.
 unfoldable pub day : SetUp → Rule → Day → List Call → Day
 day s rule d [] = d
 day s rule d (c ∷ cs) = day s rule (answer s rule d c) cs

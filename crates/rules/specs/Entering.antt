@@ -20,6 +20,7 @@ use Rattle.runs.specs.Runs.{Run, run, tidied, laid-out}
 use Rattle.rules.specs.Accounts.{traded, view-under}
 use Rattle.rules.specs.States.{State, Book, Made}
 
+-- The report that an order was accepted.
 abbrev pub noted : Order → Report
 noted o = accepted (o .number) (o .entry .limit) (o .entry .volume) (o .entry .side)
 
@@ -37,9 +38,11 @@ remainder o v = cond (eqb v 0) [] (laid-out (o .entry .kind) o v ∷ [])
 abbrev pub cut : Order → ℕ → CancelReason → List Report → List Report
 cut o v reason log = cond (eqb v 0) log (cancelled (o .number) (shares v) reason ∷ log)
 
+-- A DAY order: its remainder rests.
 unfoldable pub day-book : Order → List RestingOrder → Run → Book
 day-book o os r = record { resting = tidied os (r .others) ++ remainder o (r .left); log = r .log }
 
+-- An IOC order: its remainder is cancelled.
 unfoldable pub ioc-book : Order → List RestingOrder → Run → Book
 ioc-book o os r = record { resting = tidied os (r .others); log = cut o (r .left) why.ImmediateOrCancel (r .log) }
 
@@ -51,6 +54,7 @@ killed o os = record { resting = os; log = cancelled (o .number) (o .entry .volu
 unfoldable pub fok-book : Order → List RestingOrder → Run → Book
 fok-book o os r = cond (eqb (traded (o .number .number) (r .log)) (o .entry .volume .shares)) (ioc-book o os r) (killed o os)
 
+-- What the run comes to goes by the order's term.
 abbrev pub by-term : TimeInForce → Order → List RestingOrder → Run → Book
 by-term term.Day o os r = day-book o os r
 by-term term.ImmediateOrCancel o os r = ioc-book o os r
@@ -60,9 +64,11 @@ by-term term.FillOrKill o os r = fok-book o os r
 abbrev pub numbered : State → Broker → Entry → Order
 numbered st broker e = record { number = record { number = suc (st .accepted) }; broker = broker; entry = e }
 
+-- The order is run through the resting ones, and comes to rest or goes by its term.
 abbrev pub entry-book : Rule → Order → State → Book
 entry-book rule o st = by-term (o .entry .term) o (st .resting) (ran rule (view-under (st .quote)) o (st .resting))
 
+-- The order takes the next number.
 unfoldable pub enter : Rule → Broker → Entry → State → Made
 enter rule broker e st =
     let o : Order = numbered st broker e in

@@ -22,6 +22,7 @@ use Rattle.rules.specs.States.{State}
 use Rattle.rules.specs.Served.{served}
 use Rattle.rules.specs.Days.{Day, opening, day, Shows}
 
+-- The price of a trade.
 abbrev pub at-price : Report → Price
 at-price r = record { quarters = r .price }
 
@@ -35,6 +36,9 @@ pub record Fair-trade (orders : List Order) (log : List Report) (r : Report) : T
   pub seller-number : seller .number .number ≡ r .other
   pub buyer-side : buyer .entry .side ≡ Buy
   pub seller-side : seller .entry .side ≡ Sell
+  -- the earlier reports leave each of them the volume that it trades,
+  pub buyer-has : r .volume ≤ left-by-reports (r .order) log
+  pub seller-has : r .volume ≤ left-by-reports (r .other) log
   -- its price is within both limits,
   pub low : limit-in-force log seller .quarters ≤ r .price
   pub high : r .price ≤ limit-in-force log buyer .quarters
@@ -66,6 +70,7 @@ Fair-report orders log r = Fair-as (r .kind) orders log r
 abbrev pub Quiet : View → List RestingOrder → Type 0
 Quiet view os = (x y : RestingOrder) → In x os → In y os → takes view (x .order) (y .order) ≡ true → takes view (y .order) (x .order) ≡ true → ⊥
 
+-- The three laws of a day.
 pub record Day-ok (d : Day) : Type 0 where
   -- What was entered of each order is what the reports took, and what rests.
   pub conserved : (o : Order) → In o (d .orders)

@@ -4,6 +4,7 @@ use mathlib.Core.List.{List, [], _∷_, _++_}
 use Prim.Native.Nat.{ℕ}
 use lib.Dec.{eqb, leb, ltb}
 use lib.ListN.{length}
+use Rattle.std.specs.Options.{isSome}
 use Rattle.std.specs.declared.option.Option.{Option}
 use Rattle.std.specs.declared.option.Option.the-variants.{Some, None}
 use Rattle.std.specs.declared.result.Result.the-variants.{Ok, Err}
@@ -29,14 +30,17 @@ use Rattle.rules.specs.Accounts.{view-under}
 use Rattle.rules.specs.States.{State}
 use Rattle.rules.specs.Calls.{enrolled, broker-of, has-number}
 
+-- A ground of refusal: whether it applies, and the fault that it is answered with.
 pub record Ground : Type 0 where
   pub applies : Bool
   pub fault : ChannelFault
 
+-- The fault of the first ground that applies.
 abbrev pub first-fault : List Ground → Option ChannelFault
 first-fault [] = None
 first-fault (g ∷ gs) = cond (g .applies) (Some (g .fault)) (first-fault gs)
 
+-- A ground in the state of the book.
 abbrev pub by-book : Bool → BookFault → Ground
 by-book applies fault = record { applies = applies; fault = channel.Book fault }
 
@@ -45,6 +49,7 @@ abbrev pub by-fields : Checked → List Ground
 by-fields (Ok passed) = []
 by-fields (Err fault) = by-book true (book.Fields fault) ∷ []
 
+-- The session is closed, or halted.
 abbrev pub is-closed : SessionState → Bool
 is-closed Open = false
 is-closed Halted = false
@@ -55,28 +60,31 @@ is-halted Open = false
 is-halted Halted = true
 is-halted Closed = false
 
+-- A closed session takes no call.
 abbrev pub when-closed : State → Ground
 when-closed st = by-book (is-closed (st .session)) book.Closed
 
+-- A halted session takes no entry, no quote and no halt.
 abbrev pub when-halted : State → Ground
 when-halted st = by-book (is-halted (st .session)) book.Halted
 
+-- Only a halted session takes a resume.
 abbrev pub unless-halted : State → Ground
 unless-halted st = by-book (not (is-halted (st .session))) book.NotHalted
 
-abbrev pub is-enrolled : Option Enrolment → Bool
-is-enrolled None = false
-is-enrolled (Some e) = true
-
+-- The trader is not enrolled.
 abbrev pub unknown-trader : TraderId → State → Ground
-unknown-trader t st = by-book (not (is-enrolled (enrolled t (st .traders)))) book.UnknownTrader
+unknown-trader t st = by-book (not (isSome (enrolled t (st .traders)))) book.UnknownTrader
 
+-- The trader is enrolled already.
 abbrev pub trader-known : TraderId → State → Ground
-trader-known t st = by-book (is-enrolled (enrolled t (st .traders))) book.TraderKnown
+trader-known t st = by-book (isSome (enrolled t (st .traders))) book.TraderKnown
 
+-- The trader register has no free place.
 abbrev pub register-full : SetUp → State → Ground
 register-full s st = by-book (leb (s .traders) (length (st .traders))) book.RegisterFull
 
+-- The trader was enrolled as latency-sensitive.
 abbrev pub is-latency-sensitive : Option Enrolment → Bool
 is-latency-sensitive None = false
 is-latency-sensitive (Some e) = e .«latency_sensitive»
@@ -104,12 +112,15 @@ unmarked e = record {
 abbrev pub in-its-way : View → Entry → RestingOrder → Bool
 in-its-way view e o = not (is-peg (o .order .entry .kind)) && may-take view (unmarked e) (o .order .entry)
 
+-- A post-only order must not find one in its way.
 abbrev pub would-take : Entry → State → Ground
 would-take e st = by-book (e .marks .«post_only» && not (no-one (in-its-way (view-under (st .quote)) e) (st .resting))) book.WouldTake
 
+-- The order does not rest.
 abbrev pub unknown-order : Cancellation → State → Ground
 unknown-order c st = by-book (no-one (has-number (c .order .number)) (st .resting)) (book.UnknownOrder (c .order))
 
+-- It is an order of the broker n.
 abbrev pub is-brokers : ℕ → RestingOrder → Bool
 is-brokers n o = eqb n (o .order .broker .number)
 
@@ -119,6 +130,7 @@ other-brokers c st =
     by-book (no-one (λ o. has-number (c .order .number) o && is-brokers (broker-of (enrolled (c .trader) (st .traders)) .number) o) (st .resting))
     (book.OtherBrokers (c .order))
 
+-- As many orders were accepted as a day takes.
 abbrev pub day-limit : SetUp → State → Ground
 day-limit s st = by-book (leb (s .«day_limit») (st .accepted)) book.DayLimit
 
@@ -126,6 +138,7 @@ day-limit s st = by-book (leb (s .«day_limit») (st .accepted)) book.DayLimit
 abbrev pub table-full : SetUp → State → Ground
 table-full s st = by-book (leb (s .table) (length (st .resting))) book.TableFull
 
+-- The grounds in the state of the book, call by call.
 abbrev pub by-state : SetUp → Call → State → List Ground
 by-state s (call.Enter e) st =
     when-closed st ∷ when-halted st ∷ unknown-trader (e .trader) st ∷ latency-sensitive e st ∷ would-take e st ∷ day-limit s st ∷ table-full s st ∷ []

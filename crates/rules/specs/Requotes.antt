@@ -3,6 +3,7 @@ use mathlib.Core.Bool.{Bool, true, false, cond, not, _&&_}
 use mathlib.Core.List.{List, [], _∷_, _++_, map, reverse}
 use Prim.Native.Nat.{ℕ, suc}
 use lib.Dec.{eqb}
+use Rattle.std.specs.Options.{isSome}
 use Rattle.std.specs.declared.option.Option.{Option}
 use Rattle.std.specs.declared.option.Option.the-variants.{Some, None}
 use Rattle.std.specs.shelf.Lists.{kept-by}
@@ -24,6 +25,7 @@ pub record Spot : Type 0 where
   pub place : ℕ
   pub order : RestingOrder
 
+-- The same spot where one more order stands before it.
 abbrev pub further : Option Spot → Option Spot
 further None = None
 further (Some s) = Some (record { place = suc (s .place); order = s .order })
@@ -33,6 +35,7 @@ abbrev pub seek : ℕ → List RestingOrder → Option Spot
 seek n [] = None
 seek n (o ∷ os) = cond (eqb n (o .order .number .number)) (Some (record { place = 0; order = o })) (further (seek n os))
 
+-- The order with no volume, as it stands in its place while it runs.
 abbrev pub emptied : RestingOrder → RestingOrder
 emptied o = resting (o .order) 0 0
 
@@ -47,16 +50,13 @@ run-at rule view s b =
     let r : Run = run rule view (o .order) (record { left = volume-of o; others = at-place (s .place) emptied (b .resting); log = b .log }) in
     record { resting = tidied (b .resting) (at-place (s .place) (λ _. put-back o (r .left)) (r .others)); log = r .log }
 
-abbrev pub is-priced : Option Price → Bool
-is-priced None = false
-is-priced (Some p) = true
-
 -- It is run if it still rests, has a price and is not post-only.
 abbrev pub if-resting : Rule → View → Option Spot → Book → Book
 if-resting rule view None b = b
 if-resting rule view (Some s) b =
-    cond (is-priced (price view (s .order .order .entry)) && not (s .order .order .entry .marks .«post_only»)) (run-at rule view s b) b
+    cond (isSome (price view (s .order .order .entry)) && not (s .order .order .entry .marks .«post_only»)) (run-at rule view s b) b
 
+-- The order of the number n is run in its turn.
 unfoldable pub run-again : Rule → View → ℕ → Book → Book
 run-again rule view n b = if-resting rule view (seek n (b .resting)) b
 
@@ -69,6 +69,7 @@ re-enter rule view (n ∷ ns) b = re-enter rule view ns (run-again rule view n b
 abbrev pub to-end : (RestingOrder → Bool) → List RestingOrder → List RestingOrder
 to-end test os = kept-by (λ o. not (test o)) os ++ kept-by test os
 
+-- Both have no price, or both have the same.
 abbrev pub same-price : Option Price → Option Price → Bool
 same-price None None = true
 same-price None (Some p) = false
@@ -79,6 +80,7 @@ same-price (Some p) (Some r) = eqb (p .quarters) (r .quarters)
 abbrev pub repriced : View → View → RestingOrder → Bool
 repriced old new o = not (same-price (price old (o .order .entry)) (price new (o .order .entry)))
 
+-- The numbers of the orders.
 abbrev pub numbers : List RestingOrder → List ℕ
 numbers os = map (λ (o : RestingOrder). o .order .number .number) os
 
@@ -86,11 +88,13 @@ numbers os = map (λ (o : RestingOrder). o .order .number .number) os
 abbrev pub moved-by : Quote → State → RestingOrder → Bool
 moved-by q st = repriced (view-under (st .quote)) (view-under q)
 
+-- QUOTE is reported, repriced orders move to the end, and are run in the sequence in which they moved.
 abbrev pub requoted : Rule → Bool → Quote → State → Book
 requoted rule resumed q st =
     re-enter rule (view-under q) (numbers (kept-by (moved-by q st) (st .resting)))
     (record { resting = to-end (moved-by q st) (st .resting); log = quoted q resumed ∷ [] })
 
+-- The quote is in force, and the session is open.
 unfoldable pub requote : Rule → Bool → Quote → State → Made
 requote rule resumed q st =
     let b : Book = requoted rule resumed q st in

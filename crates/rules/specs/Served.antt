@@ -35,6 +35,7 @@ refused fault st = record { answer = Err fault; state = st; reports = []; orders
 abbrev pub sent : ℕ → State → State
 sent n st = record { session = st .session; quote = st .quote; resting = st .resting; traders = st .traders; accepted = st .accepted; space = st .space - n }
 
+-- An accepted call answers how many reports it put, and they take up the channel's space.
 abbrev pub taken : Made → Outcome
 taken m = record {
   answer = Ok (length (m .reports));
@@ -43,10 +44,12 @@ taken m = record {
   orders = m .orders;
 }
 
+-- A call is refused where there is a fault.
 abbrev pub settled : Option ChannelFault → State → Made → Outcome
 settled None st m = taken m
 settled (Some fault) st m = refused fault st
 
+-- The call in the state, under the set-up and the rule.
 unfoldable pub served : SetUp → Rule → State → Call → Outcome
 served s rule st c =
     let m : Made = made rule c st in
@@ -56,6 +59,7 @@ served s rule st c =
 abbrev pub filled-up : SetUp → List Report → List Report
 filled-up s reports = reports ++ replicate (s .sheet - length reports) blank
 
+-- The call is an enrolment.
 abbrev pub is-enrol : Call → Bool
 is-enrol (call.Enter e) = false
 is-enrol (call.Cancel c) = false
@@ -69,6 +73,7 @@ is-enrol (call.Enrol e) = true
 abbrev pub sheet-after : SetUp → Rule → State → Call → List Report → List Report
 sheet-after s rule st c sheet = cond (is-enrol c) sheet (filled-up s (served s rule st c .reports))
 
+-- A call that is refused before it is tried leaves the spare table as found.
 abbrev pub unless-tried : Option ChannelFault → List RestingOrder → List RestingOrder → List RestingOrder
 unless-tried None before spare = before
 unless-tried (Some fault) before spare = spare

@@ -1,7 +1,8 @@
 -- The values of a set-up.
-use mathlib.Core.Bool.{Bool, true, false, _&&_}
+use mathlib.Core.Bool.{Bool, _&&_}
 use Prim.Native.Nat.{ℕ}
 use lib.Dec.{eqb}
+use Rattle.std.specs.Options.{isSome}
 use Rattle.std.specs.declared.option.Option.{Option}
 use Rattle.std.specs.declared.option.Option.the-variants.{Some, None}
 use Rattle.types.specs.declared.money.Lot.{Lot}
@@ -10,14 +11,10 @@ use Rattle.types.specs.Money.{lot-of}
 use Rattle.checks.specs.Values.{between}
 use Rattle.rules.specs.declared.SetUp.{SetUp}
 
-abbrev pub is-lot : Option Lot → Bool
-is-lot None = false
-is-lot (Some lot) = true
-
 -- The sizes that a set-up takes, with a spare of so many places behind the table; any other is refused.
 abbrev pub set-up-ok : SetUp → ℕ → Bool
 set-up-ok s spare =
-    is-lot (lot-of (s .lot))
+    isSome (lot-of (s .lot))
     && (between 1 1000000 (s .«day_limit»)
     && (between 1 4096 (s .table)
     && (between 1 65536 (s .sheet)
@@ -25,6 +22,7 @@ set-up-ok s spare =
     && (between (s .table) 65536 (s .orders)
     && eqb spare (s .table))))))
 
+-- The lot; a set-up without one is refused.
 abbrev pub or-hundred : Option Lot → Lot
 or-hundred None = Hundred
 or-hundred (Some lot) = lot

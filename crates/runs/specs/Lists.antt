@@ -23,6 +23,7 @@ abbrev pub find : {X : Type 0} → (X → Bool) → List X → Option X
 find p [] = None
 find p (x ∷ xs) = cond (p x) (Some x) (find p xs)
 
+-- no element passes the test
 abbrev pub no-one : {X : Type 0} → (X → Bool) → List X → Bool
 no-one p [] = true
 no-one p (x ∷ xs) = not (p x) && no-one p xs
@@ -37,6 +38,7 @@ at-place k f [] = []
 at-place zero f (x ∷ xs) = f x ∷ xs
 at-place (suc k) f (x ∷ xs) = x ∷ at-place k f xs
 
+-- the sum of the elements' weights
 abbrev pub sum-of : {X : Type 0} → (X → ℕ) → List X → ℕ
 sum-of f [] = 0
 sum-of f (x ∷ xs) = f x + sum-of f xs

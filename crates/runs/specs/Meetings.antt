@@ -26,6 +26,7 @@ pub record Effect : Type 0 where
   pub reserve : ℕ
   pub reports : List Report
 
+-- A volume of so many shares.
 abbrev pub shares : ℕ → Volume
 shares v = record { shares = v }
 
@@ -45,6 +46,7 @@ trading view a left s suppressed =
       reports = trade-of (a .entry .side) a (s .resting .order) (offered view (s .resting)) v suppressed ∷ [];
     }
 
+-- Self-trade prevention cancels what is left of an order.
 abbrev pub stopped : Order → ℕ → Report
 stopped o v = cancelled (o .number) (shares v) SelfTrade
 
@@ -72,9 +74,11 @@ smaller-out a left o =
       reports = stopped a left ∷ stopped (o .order) (volume-of o) ∷ [];
     }))
 
+-- The active order is cancelled.
 abbrev pub active-out : Order → ℕ → RestingOrder → Effect
 active-out a left o = record { left = 0; shown = o .shown .shares; reserve = o .reserve .shares; reports = stopped a left ∷ [] }
 
+-- The resting order is cancelled.
 abbrev pub resting-out : ℕ → RestingOrder → Effect
 resting-out left o = record { left = left; shown = 0; reserve = 0; reports = stopped (o .order) (volume-of o) ∷ [] }
 
@@ -85,6 +89,7 @@ prevents a b =
     (Some (a .entry .instruction))
     None
 
+-- Without an instruction they trade, as they do under the first one, which marks the report suppressed.
 abbrev pub by-instruction : Option StpInstruction → View → Order → ℕ → Slice → Effect
 by-instruction None view a left s = trading view a left s false
 by-instruction (Some Off) view a left s = trading view a left s false

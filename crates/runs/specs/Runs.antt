@@ -11,6 +11,7 @@ use Rattle.types.specs.declared.orders.OrderKind.{OrderKind}
 use Rattle.types.specs.declared.orders.OrderKind.the-variants.{Limit, Iceberg, Peg}
 use Rattle.types.specs.declared.orders.RestingOrder.{RestingOrder}
 use Rattle.types.specs.declared.reports.Report.{Report}
+use Rattle.checks.specs.Values.{is-iceberg}
 use Rattle.prices.specs.Prices.{View}
 use Rattle.priority.specs.Priority.{Rule}
 use Rattle.runs.specs.Lists.{foremost, at-place, sum-of}
@@ -27,6 +28,7 @@ pub record Run : Type 0 where
 abbrev pub resting : Order → ℕ → ℕ → RestingOrder
 resting o shown reserve = record { order = o; shown = shares shown; reserve = shares reserve }
 
+-- The order with other volumes.
 abbrev pub holding : ℕ → ℕ → RestingOrder → RestingOrder
 holding shown reserve o = resting (o .order) shown reserve
 
@@ -49,15 +51,11 @@ meetings rule view a (suc n) st = elim (next-slice rule view a st) [ None ↦ st
 abbrev pub in-play : Run → ℕ
 in-play st = st .left + sum-of volume-of (st .others)
 
+-- Meetings until there is no next slice: there are no more of them than there is volume in play.
 unfoldable pub run : Rule → View → Order → Run → Run
 run rule view a st = meetings rule view a (in-play st) st
 
 -- What a run leaves.
-
-abbrev pub is-iceberg : OrderKind → Bool
-is-iceberg Limit = false
-is-iceberg Iceberg = true
-is-iceberg Peg = false
 
 -- An iceberg with nothing shown but reserve left.
 abbrev pub spent : RestingOrder → Bool

@@ -26,6 +26,7 @@ volume-of o = o .shown .shares + o .reserve .shares
 abbrev pub volume-in : RestingOrder → Bool → ℕ
 volume-in o hidden = cond hidden (o .reserve .shares) (o .shown .shares)
 
+-- The volume of a slice.
 abbrev pub amount : Slice → ℕ
 amount s = volume-in (s .resting) (s .hidden)
 
@@ -37,6 +38,7 @@ takes view a b = may-take view (a .entry) (b .entry)
 abbrev pub slice : RestingOrder → Bool → List Slice
 slice o hidden = cond (ltb 0 (volume-in o hidden)) (record { place = 0; resting = o; hidden = hidden } ∷ []) []
 
+-- The same slice where one more order stands before it on the list.
 abbrev pub later : Slice → Slice
 later s = record { place = suc (s .place); resting = s .resting; hidden = s .hidden }
 
@@ -53,6 +55,7 @@ offered view o = record { quarters = price-or-zero (price view (o .order .entry)
 abbrev pub taker : Order → Taker
 taker a = record { side = a .entry .side; broker = a .broker; marks = a .entry .marks }
 
+-- A slice is told by its price, by being shown or hidden, by being a peg or not, by its broker and its marks.
 abbrev pub facts : View → Slice → SliceFacts
 facts view s = record {
   price = offered view (s .resting);
