@@ -3,3 +3,5 @@ pub mod Slices
 pub mod Meetings
 pub mod Runs
 pub mod Chains
+pub mod Scans
+pub mod Offers
