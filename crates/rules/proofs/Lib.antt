@@ -9,3 +9,4 @@ pub mod Requote
 pub mod Quotes
 pub mod Day
 pub mod Shows
+pub mod Served
