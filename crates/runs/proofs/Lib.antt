@@ -5,3 +5,4 @@ pub mod Runs
 pub mod Chains
 pub mod Scans
 pub mod Offers
+pub mod Refreshes
