@@ -2,7 +2,7 @@
 use mathlib.Core.Path.{refl}
 use Rattle.prices.specs.Prices.{may-take}
 use Rattle.runs.specs.Slices.{slices, ahead}
-use Rattle.runs.specs.Meetings.{trading, smaller-out, effect}
+use Rattle.runs.specs.Meetings.{trading, smaller-out, meeting}
 use Rattle.runs.specs.Runs.{meet, next-slice, meetings, run, tidied}
 use Rattle.checks.specs.Checks.{Ticks}
 use Rattle.rules.specs.Accounts.{rests}
@@ -10,7 +10,7 @@ use Rattle.rules.specs.Entering.{ran, day-book, ioc-book, fok-book, enter}
 use Rattle.rules.specs.Requotes.{run-at, run-again, re-enter, requote}
 use Rattle.rules.specs.Calls.{cancel, halt, close, enrol}
 use Rattle.rules.specs.Served.{served}
-use Rattle.rules.specs.Days.{day}
+use Rattle.rules.specs.Days.{day-of}
 use Rattle.rules.specs.Cases.{Cases}
 
 ticks : Ticks
@@ -26,7 +26,7 @@ ticks = record {
 }
 
 pub cases : Cases
-unfolding may-take slices ahead trading smaller-out effect meet next-slice meetings run tidied rests ran day-book ioc-book fok-book enter run-at run-again re-enter requote cancel halt close enrol served day
+unfolding may-take slices ahead trading smaller-out meeting meet next-slice meetings run tidied rests ran day-book ioc-book fok-book enter run-at run-again re-enter requote cancel halt close enrol served day-of
 cases = record {
   ticks = ticks;
   prices = record { apart = refl; locked = refl; crossed = refl; odd = refl; far = refl };

@@ -42,7 +42,7 @@ use Rattle.rules.specs.Requotes.{requoted, requote}
 use Rattle.rules.specs.Calls.{enrolled, broker-of, has-number, cancel, halt, cancelled-at-close, close, enrol, made}
 use Rattle.rules.specs.Refusals.{Ground, first-fault, by-fields, by-state, grounds, room}
 use Rattle.rules.specs.Served.{Outcome, settled, served}
-use Rattle.rules.specs.Days.{Day, opening, add, answer, day}
+use Rattle.rules.specs.Days.{Day, opening, add, answer, day-of}
 use Rattle.rules.specs.Laws.{Fair-report, Day-ok, Day-law}
 use Rattle.rules.proofs.Sound.{All-fair}
 use Rattle.rules.proofs.Tidied.{counted, count}
@@ -230,8 +230,8 @@ module _ (rule : Rule) (law : Lawful rule) where
       go None e = made-keeps (lot-in s) c (passed (check (lot-in s) c) (by-state s c (d .state)) (room s (d .state) (length (m .reports))) e) (d .state) (d .log) (d .orders) h
       go (Some f) e = h
 
-  day-keeps : (s : SetUp) (d : Day) (cs : List Call) → Fine d → Fine (day s rule d cs)
-  unfolding day
+  day-keeps : (s : SetUp) (d : Day) (cs : List Call) → Fine d → Fine (day-of s rule d cs)
+  unfolding day-of
   day-keeps s d [] h = h
   day-keeps s d (c ∷ cs) h = day-keeps s (answer s rule d c) cs (answer-keeps s d c h)
 
@@ -276,4 +276,4 @@ day-ok d (w, inv) = record {
 }
 
 pub day-law : Day-law
-day-law s rule law space calls = day-ok (day s rule (opening space) calls) (day-keeps rule law s (opening space) calls (opening-holds space))
+day-law s rule law space calls = day-ok (day-of s rule (opening space) calls) (day-keeps rule law s (opening space) calls (opening-holds space))

@@ -21,7 +21,7 @@ use Rattle.priority.specs.Priority.{Rule, Lawful}
 use Rattle.runs.specs.Lists.{In, sum-of}
 use Rattle.runs.specs.Slices.{volume-of, takes}
 use Rattle.runs.specs.Meetings.{shares}
-use Rattle.runs.specs.Runs.{Run, run, tidied, laid-out}
+use Rattle.runs.specs.Runs.{Progress, run, tidied, laid-out}
 use Rattle.runs.proofs.Lists.{in-append, in-map, map-in, in-sum}
 use Rattle.runs.proofs.Runs.{run-done, after, run-after}
 use Rattle.rules.specs.Accounts.{on, lost-by, entered-by, lost, entered, traded, rests, quote-of}
@@ -34,11 +34,11 @@ use Rattle.rules.proofs.Tidied.{rows-of, counted, count, count-tidied, tidied-
 use Rattle.rules.proofs.Inv.{Core, Inv, onto, book, Unique, count-append, count-rows, later-order, on-same, on-other, lost-cons, entered-cons, fair-cons, rests-append}
 
 -- at the end of its run an order with volume left may take no order with volume
-abbrev pub Finished : View → Order → Run → Type 0
+abbrev pub Finished : View → Order → Progress → Type 0
 Finished q a r = 0 < r .left → (o : RestingOrder) → In o (r .others) → 0 < volume-of o → takes q a (o .order) ≡ false
 
 -- an order of the tidied list is one of the rows
-module _ (orders : List Order) (q : View) (a : Order) (want : ℕ → ℕ) (rows : List Order) (r : Run) (sound : Sound orders q a want rows r) where
+module _ (orders : List Order) (q : View) (a : Order) (want : ℕ → ℕ) (rows : List Order) (r : Progress) (sound : Sound orders q a want rows r) where
   pub tidied-row : (o : RestingOrder) (bs : List RestingOrder) → In o (tidied bs (r .others)) → In (o .order) rows
   tidied-row o bs i =
       let (x, j, e, v, w) = tidied-in o bs (r .others) i in
@@ -71,7 +71,7 @@ remainder-rests n e v = go (eqb v 0) refl
 
 -- The book after the run of the order e, which is in none of the rows.
 module _ (orders : List Order) (q : View) (e : Order) (want : ℕ → ℕ) (rows : List Order) (known : Known orders e rows)
-    (old : List Report) (r : Run) (sound : Sound orders q e want rows (after old r)) (os : List RestingOrder) (same : rows ≡ rows-of os) where
+    (old : List Report) (r : Progress) (sound : Sound orders q e want rows (after old r)) (os : List RestingOrder) (same : rows ≡ rows-of os) where
   rows-kept : rows-of os ≡ rows-of (r .others)
   rows-kept = sym (sound .same-rows ∙ same)
 
@@ -196,7 +196,7 @@ module _ (rule : Rule) (law : Lawful rule) (before : ℕ) (q : Quote) (os : List
     active = inl refl;
   }
 
-  begun : Run
+  begun : Progress
   begun = record { left = e .entry .volume .shares; others = os; log = noted e ∷ [] }
 
   begun-sound : Sound (e ∷ orders) q e want-then rows (after old begun)
@@ -214,7 +214,7 @@ module _ (rule : Rule) (law : Lawful rule) (before : ℕ) (q : Quote) (os : List
   ran-ok : Sound (e ∷ orders) q e want-then rows (after old (ran rule q e os)) × Finished q e (ran rule q e os)
   unfolding ran begun
   ran-ok =
-      cond-both (e .entry .marks .«post_only») _ _ (λ (r : Run). Sound (e ∷ orders) q e want-then rows (after old r) × Finished q e r)
+      cond-both (e .entry .marks .«post_only») _ _ (λ (r : Progress). Sound (e ∷ orders) q e want-then rows (after old r) × Finished q e r)
       (λ h. (begun-sound, λ _ o _ _. post-never q e (o .order) h))
       (λ h. (
         subst (Sound (e ∷ orders) q e want-then rows) (run-after rule q e old begun)

@@ -18,7 +18,7 @@ use Rattle.types.specs.declared.orders.StpInstruction.the-variants.{Off, TradeA
 use Rattle.prices.specs.Prices.{View}
 use Rattle.runs.specs.Lists.{sum-of}
 use Rattle.runs.specs.Slices.{Slice, volume-of, amount, offered}
-use Rattle.runs.specs.Meetings.{Effect, trade-of, trading, smaller-out, prevents, by-instruction, effect}
+use Rattle.runs.specs.Meetings.{Effect, trade-of, trading, smaller-out, prevents, by-instruction, meeting}
 use Rattle.runs.proofs.Meetings.{volume-left}
 use Rattle.rules.specs.Accounts.{on, lost-by, entered-by}
 
@@ -101,6 +101,6 @@ by-even (Some CancelOldest) n q a left s = record { sums = go (eqb n (s .resting
     go true = omega arith
     go false = omega arith
 
-pub even : (n : ℕ) (q : View) (a : Order) (left : ℕ) (s : Slice) → Even n a (s .resting) left (effect q a left s)
-unfolding effect
+pub even : (n : ℕ) (q : View) (a : Order) (left : ℕ) (s : Slice) → Even n a (s .resting) left (meeting q a left s)
+unfolding meeting
 even n q a left s = by-even (prevents a (s .resting .order)) n q a left s

@@ -21,7 +21,7 @@ use Rattle.prices.specs.Prices.{View, price}
 use Rattle.priority.specs.Priority.{Rule, Lawful}
 use Rattle.runs.specs.Lists.{In, At, at-place, sum-of}
 use Rattle.runs.specs.Slices.{volume-of, takes}
-use Rattle.runs.specs.Runs.{Run, run, tidied, laid-out}
+use Rattle.runs.specs.Runs.{Progress, run, tidied, laid-out}
 use Rattle.runs.proofs.Lists.{in-append, in-map, map-in, in-kept, kept-in, sum-parted, sum-at-place, map-at-place, at-in, at-same, in-at-place, only-one, at-map, at-one, map-at}
 use Rattle.runs.proofs.Runs.{run-done, run-empty, after, run-after}
 use Rattle.rules.specs.Accounts.{on, lost, entered, rests, quote-of}
@@ -94,7 +94,7 @@ module _ (rule : Rule) (law : Lawful rule) (orders : List Order) (unique : Uniqu
     active = core .listed (s .order) (at-in (b .resting) (s .place) (s .order) at);
   }
 
-  begun : Run
+  begun : Progress
   begun = record { left = volume-of (s .order); others = at-place (s .place) emptied (b .resting); log = b .log }
 
   begun-sound : Sound orders q a want rows (after old begun)
@@ -107,7 +107,7 @@ module _ (rule : Rule) (law : Lawful rule) (orders : List Order) (unique : Uniqu
     trades = core .trades;
   }
 
-  r : Run
+  r : Progress
   r = run rule q a begun
 
   sound : Sound orders q a want rows (after old r)

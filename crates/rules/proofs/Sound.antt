@@ -23,8 +23,8 @@ use Rattle.prices.specs.Prices.{View, price, is-peg, opposite, middle}
 use Rattle.priority.specs.Priority.{Rule, Lawful, better}
 use Rattle.runs.specs.Lists.{In, At, sum-of}
 use Rattle.runs.specs.Slices.{Slice, volume-of, amount, takes, slices, offered, facts, ahead}
-use Rattle.runs.specs.Meetings.{Effect, trade-of, trading, smaller-out, prevents, by-instruction, effect}
-use Rattle.runs.specs.Runs.{Run, holding, meet, run}
+use Rattle.runs.specs.Meetings.{Effect, trade-of, trading, smaller-out, prevents, by-instruction, meeting}
+use Rattle.runs.specs.Runs.{Progress, holding, meet, run}
 use Rattle.runs.proofs.Lists.{at-in, in-map, map-in, sum-append, sum-at-place, map-at-place, in-sum, in-sum-le}
 use Rattle.runs.proofs.Slices.{slice-ok, has-slice, ahead-price}
 use Rattle.runs.proofs.Runs.{Top, run-keep}
@@ -68,12 +68,12 @@ module _ (os : List Order) (log : List Report) (old : All-fair os log) where
   by-more (Some CancelNewest) q a left s h = (refl, (tt, old))
   by-more (Some CancelOldest) q a left s h = (refl, (tt, old))
 
-  effect-more : (q : View) (a : Order) (left : ℕ) (s : Slice) → Trade-fair q a left s → More (effect q a left s .reports)
-  unfolding effect
+  effect-more : (q : View) (a : Order) (left : ℕ) (s : Slice) → Trade-fair q a left s → More (meeting q a left s .reports)
+  unfolding meeting
   effect-more q a left s h = by-more (prevents a (s .resting .order)) q a left s h
 
 -- `want` is what was entered of each number, `rows` the orders on the list.
-pub record Sound (orders : List Order) (q : View) (a : Order) (want : ℕ → ℕ) (rows : List Order) (st : Run) : Type 0 where
+pub record Sound (orders : List Order) (q : View) (a : Order) (want : ℕ → ℕ) (rows : List Order) (st : Progress) : Type 0 where
   pub sums : (n : ℕ) → want n ≡ lost n (st .log) + rests n (st .others) + on n (a .number .number) (st .left)
   pub wanted : (n : ℕ) → entered n (st .log) ≡ want n
   pub same-rows : map (λ o. o .order) (st .others) ≡ rows
@@ -119,7 +119,7 @@ marked Sell false = refl
 
 module _ (rule : Rule) (law : Lawful rule) (orders : List Order) (q : View) (a : Order) (want : ℕ → ℕ) (rows : List Order) (known : Known orders a rows) where
   -- an accepted order that the reports leave volume, and that a may take, is on the list with volume
-  open-rests : (st : Run) → Sound orders q a want rows st → (e : Order) → In e orders → 0 < left-by-reports (e .number .number) (st .log)
+  open-rests : (st : Progress) → Sound orders q a want rows st → (e : Order) → In e orders → 0 < left-by-reports (e .number .number) (st .log)
       → takes q a e ≡ true → (o : RestingOrder) × In o (st .others) × (o .order ≡ e) × (0 < volume-of o)
   unfolding rests
   open-rests st sound e i h t = go (eqb (e .number .number) (a .number .number)) refl
@@ -141,7 +141,7 @@ module _ (rule : Rule) (law : Lawful rule) (orders : List Order) (q : View) (a :
   Best log p = (e : Order) (r : Price) → In e orders → 0 < left-by-reports (e .number .number) log → takes q a e ≡ true → price q (e .entry) ≡ Some r → better (a .entry .side) r p ≡ true → ⊥
 
   -- the slice that no other is ahead of has the best price
-  best-price : (st : Run) → Sound orders q a want rows st → (s : Slice) → Top rule q a st s → Best (st .log) (offered q (s .resting))
+  best-price : (st : Progress) → Sound orders q a want rows st → (s : Slice) → Top rule q a st s → Best (st .log) (offered q (s .resting))
   best-price st sound s (i, top) e r j h t er better-so =
       let (o, k, x, v) = open-rests st sound e j h t in
       let (u, l, y) = has-slice q a (st .others) o k (ap (takes q a) x ∙ t) v in
@@ -210,13 +210,13 @@ module _ (rule : Rule) (law : Lawful rule) (orders : List Order) (q : View) (a :
   fair-with log e b i pa p v sup m h own its Sell Buy ax by o f g l = sold log e b i pa p v _ m h own its (marked Sell sup) ax by f g l
 
   -- the reports leave the active order what is left of it, and a resting one its volume
-  active-has : (st : Run) → Sound orders q a want rows st → st .left ≤ left-by-reports (a .number .number) (st .log)
+  active-has : (st : Progress) → Sound orders q a want rows st → st .left ≤ left-by-reports (a .number .number) (st .log)
   active-has st sound =
       let n : ℕ = a .number .number in
       let here : on n n (st .left) ≡ st .left = ap (λ b. cond b (st .left) 0) (eq-eqb n n refl) in
       omega (arith, sound .sums n, sound .wanted n, here)
 
-  resting-has : (st : Run) → Sound orders q a want rows st → (o : RestingOrder) → In o (st .others) → volume-of o ≤ left-by-reports (o .order .number .number) (st .log)
+  resting-has : (st : Progress) → Sound orders q a want rows st → (o : RestingOrder) → In o (st .others) → volume-of o ≤ left-by-reports (o .order .number .number) (st .log)
   unfolding rests
   resting-has st sound o i =
       let n : ℕ = o .order .number .number in
@@ -224,7 +224,7 @@ module _ (rule : Rule) (law : Lawful rule) (orders : List Order) (q : View) (a :
       omega (arith, sound .sums n, sound .wanted n, here, in-sum-le (λ (o : RestingOrder). on n (o .order .number .number) (volume-of o)) o (st .others) i)
 
   -- the trade with the slice that no other is ahead of is fair
-  fair-trade : (st : Run) → Sound orders q a want rows st → (s : Slice) → Top rule q a st s → (v : ℕ) → v ≤ st .left → v ≤ amount s → (sup : Bool)
+  fair-trade : (st : Progress) → Sound orders q a want rows st → (s : Slice) → Top rule q a st s → (v : ℕ) → v ≤ st .left → v ≤ amount s → (sup : Bool)
       → Fair-report orders (st .log) (trade-of (a .entry .side) a (s .resting .order) (offered q (s .resting)) v sup)
   fair-trade st sound s (i, top) v less-own less-its sup =
       let b : Order = s .resting .order in
@@ -244,11 +244,11 @@ module _ (rule : Rule) (law : Lawful rule) (orders : List Order) (q : View) (a :
       (fair-with (st .log) (sound .quoted) b b-known pa p v sup pegs (subst (Best (st .log)) worth (best-price st sound s (i, top))) own its (a .entry .side) (b .entry .side) refl refl (t .sides)
       (fair (a .entry .kind) (a .entry .side) q (a .entry .limit) pa ap′) (fair (b .entry .kind) (b .entry .side) q (b .entry .limit) p rp) low)
 
-  step : (st : Run) → Sound orders q a want rows st → (s : Slice) → Top rule q a st s → Sound orders q a want rows (meet q a st s)
+  step : (st : Progress) → Sound orders q a want rows st → (s : Slice) → Top rule q a st s → Sound orders q a want rows (meet q a st s)
   unfolding meet lost entered rests
   step st sound s (i, top) =
       let ok = slice-ok q a (st .others) s i in
-      let f : Effect = effect q a (st .left) s in
+      let f : Effect = meeting q a (st .left) s in
       let more = effect-more orders (st .log) (sound .trades) q a (st .left) s (λ sup. fair-trade st sound s (i, top) (min (st .left) (amount s)) (omega arith) (omega arith) sup) in
       record {
         sums = λ n. omega (
@@ -265,5 +265,5 @@ module _ (rule : Rule) (law : Lawful rule) (orders : List Order) (q : View) (a :
       }
 
   -- a run keeps what is sound
-  pub run-sound : (st : Run) → Sound orders q a want rows st → Sound orders q a want rows (run rule q a st)
+  pub run-sound : (st : Progress) → Sound orders q a want rows st → Sound orders q a want rows (run rule q a st)
   run-sound st sound = run-keep rule q a (Sound orders q a want rows) step st sound

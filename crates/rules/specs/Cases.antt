@@ -26,7 +26,7 @@ use Rattle.prices.specs.Prices.{bid-by-offer, Prices-hold}
 use Rattle.priority.specs.Priority.{omega-rule}
 use Rattle.runs.specs.Meetings.{shares}
 use Rattle.rules.specs.declared.SetUp.{SetUp}
-use Rattle.rules.specs.Days.{Day, opening, day}
+use Rattle.rules.specs.Days.{Day, opening, day-of}
 
 -- A small book.
 abbrev pub usual : SetUp
@@ -34,7 +34,7 @@ usual = record { lot = 100; «day_limit» = 1000; table = 10; sheet = 20; trader
 
 -- The day of the calls, with space enough.
 abbrev pub played : List Call → Day
-played calls = day usual omega-rule (opening 100) calls
+played calls = day-of usual omega-rule (opening 100) calls
 
 -- Its reports in sequence.
 abbrev pub reported : List Call → List Report

@@ -29,9 +29,9 @@ abbrev pub answer : SetUp → Rule → Day → Call → Day
 answer s rule d c = add d (served s rule (d .state) c)
 
 -- The calls are served one after the other.
-unfoldable pub day : SetUp → Rule → Day → List Call → Day
-day s rule d [] = d
-day s rule d (c ∷ cs) = day s rule (answer s rule d c) cs
+unfoldable pub day-of : SetUp → Rule → Day → List Call → Day
+day-of s rule d [] = d
+day-of s rule d (c ∷ cs) = day-of s rule (answer s rule d c) cs
 
 -- What is seen of a day from outside: the state, and the channel's list, which began with `first`.
 pub record Shows (first : List Report) (d : Day) (st : State) (list : List Report) : Type 0 where

@@ -16,7 +16,7 @@ use Rattle.types.specs.Reports.{accepted, cancelled}
 use Rattle.prices.specs.Prices.{View}
 use Rattle.priority.specs.Priority.{Rule}
 use Rattle.runs.specs.Meetings.{shares}
-use Rattle.runs.specs.Runs.{Run, run, tidied, laid-out}
+use Rattle.runs.specs.Runs.{Progress, run, tidied, laid-out}
 use Rattle.rules.specs.Accounts.{traded, view-under}
 use Rattle.rules.specs.States.{State, Book, Made}
 
@@ -25,9 +25,9 @@ abbrev pub noted : Order → Report
 noted o = accepted (o .number) (o .entry .limit) (o .entry .volume) (o .entry .side)
 
 -- The accepted order after its run; a post-only order has none.
-unfoldable pub ran : Rule → View → Order → List RestingOrder → Run
+unfoldable pub ran : Rule → View → Order → List RestingOrder → Progress
 ran rule view o os =
-    let start : Run = record { left = o .entry .volume .shares; others = os; log = noted o ∷ [] } in
+    let start : Progress = record { left = o .entry .volume .shares; others = os; log = noted o ∷ [] } in
     cond (o .entry .marks .«post_only») start (run rule view o start)
 
 -- What is left of a DAY order rests at the end of the list.
@@ -39,11 +39,11 @@ abbrev pub cut : Order → ℕ → CancelReason → List Report → List Report
 cut o v reason log = cond (eqb v 0) log (cancelled (o .number) (shares v) reason ∷ log)
 
 -- A DAY order: its remainder rests.
-unfoldable pub day-book : Order → List RestingOrder → Run → Book
+unfoldable pub day-book : Order → List RestingOrder → Progress → Book
 day-book o os r = record { resting = tidied os (r .others) ++ remainder o (r .left); log = r .log }
 
 -- An IOC order: its remainder is cancelled.
-unfoldable pub ioc-book : Order → List RestingOrder → Run → Book
+unfoldable pub ioc-book : Order → List RestingOrder → Progress → Book
 ioc-book o os r = record { resting = tidied os (r .others); log = cut o (r .left) why.ImmediateOrCancel (r .log) }
 
 -- The order is cancelled in full, and all else is as before.
@@ -51,11 +51,11 @@ abbrev pub killed : Order → List RestingOrder → Book
 killed o os = record { resting = os; log = cancelled (o .number) (o .entry .volume) why.FillOrKill ∷ noted o ∷ [] }
 
 -- A fill-or-kill order is run on trial; its trades must make up its whole volume.
-unfoldable pub fok-book : Order → List RestingOrder → Run → Book
+unfoldable pub fok-book : Order → List RestingOrder → Progress → Book
 fok-book o os r = cond (eqb (traded (o .number .number) (r .log)) (o .entry .volume .shares)) (ioc-book o os r) (killed o os)
 
 -- What the run comes to goes by the order's term.
-abbrev pub by-term : TimeInForce → Order → List RestingOrder → Run → Book
+abbrev pub by-term : TimeInForce → Order → List RestingOrder → Progress → Book
 by-term term.Day o os r = day-book o os r
 by-term term.ImmediateOrCancel o os r = ioc-book o os r
 by-term term.FillOrKill o os r = fok-book o os r

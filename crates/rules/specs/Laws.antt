@@ -20,7 +20,7 @@ use Rattle.rules.specs.declared.SetUp.{SetUp}
 use Rattle.rules.specs.Accounts.{lost, left-by-reports, limit-in-force, quote-of, view-under, view-of, active-side, active-of, rests}
 use Rattle.rules.specs.States.{State}
 use Rattle.rules.specs.Served.{served}
-use Rattle.rules.specs.Days.{Day, opening, day, Shows}
+use Rattle.rules.specs.Days.{Day, opening, day-of, Shows}
 
 -- The price of a trade.
 abbrev pub at-price : Report → Price
@@ -82,14 +82,14 @@ pub record Day-ok (d : Day) : Type 0 where
 
 -- It holds for every set-up, every lawful rule, every space of the channel and every list of calls.
 abbrev pub Day-law : Type 0
-Day-law = (s : SetUp) (rule : Rule) → Lawful rule → (space : ℕ) (calls : List Call) → Day-ok (day s rule (opening space) calls)
+Day-law = (s : SetUp) (rule : Rule) → Lawful rule → (space : ℕ) (calls : List Call) → Day-ok (day-of s rule (opening space) calls)
 
 -- The law at one call, from the state and the channel's list at its start to those at its end: whatever calls of the day came before,
 -- the day with this call shows what is held now, and has the law.
 abbrev pub Goes-on : SetUp → Rule → Call → State → List Report → State → List Report → Type 0
 Goes-on s rule c st list st′ list′ =
-    (first : List Report) (space : ℕ) (calls : List Call) → Shows first (day s rule (opening space) calls) st list
-    → Shows first (day s rule (opening space) (calls ++ (c ∷ []))) st′ list′ × Day-ok (day s rule (opening space) (calls ++ (c ∷ [])))
+    (first : List Report) (space : ℕ) (calls : List Call) → Shows first (day-of s rule (opening space) calls) st list
+    → Shows first (day-of s rule (opening space) (calls ++ (c ∷ []))) st′ list′ × Day-ok (day-of s rule (opening space) (calls ++ (c ∷ [])))
 
 -- Every call that is served as the rules say carries the law on.
 abbrev pub Calls-go-on : Type 0

@@ -16,7 +16,7 @@ use Rattle.prices.specs.Prices.{View, price}
 use Rattle.priority.specs.Priority.{Rule}
 use Rattle.runs.specs.Lists.{at-place}
 use Rattle.runs.specs.Slices.{volume-of}
-use Rattle.runs.specs.Runs.{Run, resting, run, tidied, laid-out}
+use Rattle.runs.specs.Runs.{Progress, resting, run, tidied, laid-out}
 use Rattle.rules.specs.Accounts.{view-under}
 use Rattle.rules.specs.States.{State, Book, Made}
 
@@ -47,7 +47,7 @@ put-back o v = cond (eqb v (volume-of o)) o (laid-out (o .order .entry .kind) (o
 unfoldable pub run-at : Rule → View → Spot → Book → Book
 run-at rule view s b =
     let o : RestingOrder = s .order in
-    let r : Run = run rule view (o .order) (record { left = volume-of o; others = at-place (s .place) emptied (b .resting); log = b .log }) in
+    let r : Progress = run rule view (o .order) (record { left = volume-of o; others = at-place (s .place) emptied (b .resting); log = b .log }) in
     record { resting = tidied (b .resting) (at-place (s .place) (λ _. put-back o (r .left)) (r .others)); log = r .log }
 
 -- It is run if it still rests, has a price and is not post-only.

@@ -16,8 +16,8 @@ use Rattle.priority.specs.declared.Ahead.{Ahead}
 use Rattle.priority.specs.declared.Ahead.the-variants.{First, Second, Level}
 use Rattle.priority.specs.Priority.{Rule, Lawful, swapped, is-first, is-second}
 use Rattle.runs.specs.Lists.{In, At, find, no-one, foremost}
-use Rattle.runs.specs.Slices.{Slice, takes, slice, later, slices, taker, facts, offered, ahead}
-use Rattle.runs.specs.Runs.{Run, meet, next-slice, in-play, run}
+use Rattle.runs.specs.Slices.{Slice, takes, slice-of, later, slices, taker, facts, offered, ahead}
+use Rattle.runs.specs.Runs.{Progress, meet, next-slice, in-play, run}
 use Rattle.runs.specs.Chains.{Open-to, Foremost, Over, Chain, One-chain, Runs-hold}
 use Rattle.runs.specs.Chains.Chain.{ends, meets}
 use Rattle.runs.proofs.Lists.{in-append, in-map, in-no-one, at-one, foremost-none, foremost-some}
@@ -60,7 +60,7 @@ before-map f x y (z ∷ xs) (inr b) = let (u, v, c, e, g) = before-map f x y xs 
 abbrev Earlier : Slice → Slice → Type 0
 Earlier s t = (s .place < t .place) ⊎ ((s .place ≡ t .place) × (s .hidden ≡ false) × (t .hidden ≡ true))
 
-not-two : (o : RestingOrder) (h : Bool) (s t : Slice) → Before s t (slice o h) → ⊥
+not-two : (o : RestingOrder) (h : Bool) (s t : Slice) → Before s t (slice-of o h) → ⊥
 not-two o h s t b = go (ltb 0 (cond h (o .reserve .shares) (o .shown .shares))) b
   where
     go : (b : Bool) → Before s t (cond b (record { place = 0; resting = o; hidden = h } ∷ []) []) → ⊥
@@ -71,7 +71,7 @@ not-two o h s t b = go (ltb 0 (cond h (o .reserve .shares) (o .shown .shares))) 
 in-sequence : (q : View) (a : Order) (os : List RestingOrder) (s t : Slice) → Before s t (slices q a os) → Earlier s t
 unfolding slices
 in-sequence q a [] s t b = absurd b
-in-sequence q a (o ∷ os) s t b = elim (before-append s t (cond (takes q a (o .order)) (slice o false ++ slice o true) []) (map later (slices q a os)) b) [
+in-sequence q a (o ∷ os) s t b = elim (before-append s t (cond (takes q a (o .order)) (slice-of o false ++ slice-of o true) []) (map later (slices q a os)) b) [
   | inl k ↦ own (takes q a (o .order)) k
   | inr (inl (i, j)) ↦
       let (u, k, e) = in-map later t (slices q a os) j in
@@ -81,15 +81,15 @@ in-sequence q a (o ∷ os) s t b = elim (before-append s t (cond (takes q a (o .
       next u v e f (in-sequence q a os u v c)
 ]
   where
-    own-place : (s : Slice) (b : Bool) → In s (cond b (slice o false ++ slice o true) []) → s .place ≡ 0
-    own-place s true i = elim (in-append s (slice o false) (slice o true) i) [
+    own-place : (s : Slice) (b : Bool) → In s (cond b (slice-of o false ++ slice-of o true) []) → s .place ≡ 0
+    own-place s true i = elim (in-append s (slice-of o false) (slice-of o true) i) [
       | inl k ↦ ap (λ (z : Slice). z .place) (slice-is o false s k .0)
       | inr k ↦ ap (λ (z : Slice). z .place) (slice-is o true s k .0)
     ]
     own-place s false i = absurd i
 
-    own : (b : Bool) → Before s t (cond b (slice o false ++ slice o true) []) → Earlier s t
-    own true b = elim (before-append s t (slice o false) (slice o true) b) [
+    own : (b : Bool) → Before s t (cond b (slice-of o false ++ slice-of o true) []) → Earlier s t
+    own true b = elim (before-append s t (slice-of o false) (slice-of o true) b) [
       | inl k ↦ absurd (not-two o false s t k)
       | inr (inl (i, j)) ↦
           let x = slice-is o false s i .0 in
@@ -123,7 +123,7 @@ module _ (rule : Rule) (law : Lawful rule) (q : View) (a : Order) where
   first-not-level x e f = let z : _≡_ {A = ℕ} 0 1 = cc in omega arith
 
   -- the foremost slice of the definition is the foremost one of the relation
-  is-foremost : (st : Run) (s : Slice) → foremost (ahead rule q a) (slices q a (st .others)) ≡ Some s → Foremost rule q a st s
+  is-foremost : (st : Progress) (s : Slice) → foremost (ahead rule q a) (slices q a (st .others)) ≡ Some s → Foremost rule q a st s
   unfolding answer ahead
   is-foremost st s e = record { here = slice-ok q a (st .others) s (top .0); first = λ t o. side t o (answer s t) refl }
     where
@@ -160,7 +160,7 @@ module _ (rule : Rule) (law : Lawful rule) (q : View) (a : Order) where
             | inr k ↦ inr (inr (x, k))
           ]
 
-  only-one-foremost : (st : Run) (s t : Slice) → Foremost rule q a st s → Foremost rule q a st t → s ≡ t
+  only-one-foremost : (st : Progress) (s t : Slice) → Foremost rule q a st s → Foremost rule q a st t → s ≡ t
   unfolding answer
   only-one-foremost st s t f g = elim (f .first t (g .here)) [
     | inl e ↦ sym e
@@ -188,7 +188,7 @@ module _ (rule : Rule) (law : Lawful rule) (q : View) (a : Order) where
       level-first : Level ≡ First → ⊥
       level-first e = let z : _≡_ {A = ℕ} 0 1 = cc in omega arith
 
-  is-next : (st : Run) (s : Slice) → next-slice rule q a st ≡ Some s → Foremost rule q a st s
+  is-next : (st : Progress) (s : Slice) → next-slice rule q a st ≡ Some s → Foremost rule q a st s
   unfolding next-slice
   is-next st s e = go (eqb (st .left) 0) e
     where
@@ -196,7 +196,7 @@ module _ (rule : Rule) (law : Lawful rule) (q : View) (a : Order) where
       go true e = let z : _≡_ {A = ℕ} 0 1 = cc in absurd (omega arith)
       go false e = is-foremost st s e
 
-  is-over : (st : Run) → next-slice rule q a st ≡ None → Over q a st
+  is-over : (st : Progress) → next-slice rule q a st ≡ None → Over q a st
   unfolding next-slice
   is-over st e = go (eqb (st .left) 0) refl e
     where
@@ -206,28 +206,28 @@ module _ (rule : Rule) (law : Lawful rule) (q : View) (a : Order) where
           inr (λ s o. foremost-none (ahead rule q a) (ahead-self rule law q a) (ahead-trans rule law q a) (slices q a (st .others)) e s (open-in q a (st .others) s o))
 
   -- the run is a chain
-  chain-of : (n : ℕ) (st : Run) → in-play st ≤ n → (met : List Slice) × Chain rule q a st met (run rule q a st)
+  chain-of : (n : ℕ) (st : Progress) → in-play st ≤ n → (met : List Slice) × Chain rule q a st met (run rule q a st)
   chain-of zero st h = go (next-slice rule q a st) refl
     where
       go : (x : Option Slice) → next-slice rule q a st ≡ x → (met : List Slice) × Chain rule q a st met (run rule q a st)
-      go None e = ([], subst (λ (z : Run). Chain rule q a st [] z) (sym (run-stop rule q a st e)) (ends st (is-over st e)))
+      go None e = ([], subst (λ (z : Progress). Chain rule q a st [] z) (sym (run-stop rule q a st e)) (ends st (is-over st e)))
       go (Some s) e = absurd (omega (arith, chosen rule q a st s e .0))
   chain-of (suc n) st h = go (next-slice rule q a st) refl (chain-of n)
     where
-      go : (x : Option Slice) → next-slice rule q a st ≡ x → ((st : Run) → in-play st ≤ n → (met : List Slice) × Chain rule q a st met (run rule q a st))
+      go : (x : Option Slice) → next-slice rule q a st ≡ x → ((st : Progress) → in-play st ≤ n → (met : List Slice) × Chain rule q a st met (run rule q a st))
           → (met : List Slice) × Chain rule q a st met (run rule q a st)
-      go None e ih = ([], subst (λ (z : Run). Chain rule q a st [] z) (sym (run-stop rule q a st e)) (ends st (is-over st e)))
+      go None e ih = ([], subst (λ (z : Progress). Chain rule q a st [] z) (sym (run-stop rule q a st e)) (ends st (is-over st e)))
       go (Some s) e ih =
           let (h′, top) = chosen rule q a st s e in
           let (met, c) = ih (meet q a st s) (omega (arith, falls rule q a st h′ s top)) in
-          (s ∷ met, subst (λ (z : Run). Chain rule q a st (s ∷ met) z) (sym (run-next rule q a st s e)) (meets st (run rule q a (meet q a st s)) s met h′ (is-next st s e) c))
+          (s ∷ met, subst (λ (z : Progress). Chain rule q a st (s ∷ met) z) (sym (run-next rule q a st s e)) (meets st (run rule q a (meet q a st s)) s met h′ (is-next st s e) c))
 
   -- and the only one
-  same-chain : {st : Run} {m m′ : List Slice} {e e′ : Run} → Chain rule q a st m e → Chain rule q a st m′ e′ → (m′ ≡ m) × (e′ ≡ e)
+  same-chain : {st : Progress} {m m′ : List Slice} {e e′ : Progress} → Chain rule q a st m e → Chain rule q a st m′ e′ → (m′ ≡ m) × (e′ ≡ e)
   same-chain (ends st o) (ends _ o′) = (refl, refl)
   same-chain (ends st o) (meets _ end s met h f c) = absurd (not-over st o s h f)
     where
-      not-over : (st : Run) → Over q a st → (s : Slice) → 0 < st .left → Foremost rule q a st s → ⊥
+      not-over : (st : Progress) → Over q a st → (s : Slice) → 0 < st .left → Foremost rule q a st s → ⊥
       not-over st (inl z) s h f = omega arith
       not-over st (inr n) s h f = n s (f .here)
   same-chain (meets st end s met h f c) (ends _ o) = absurd (not-over o)
@@ -243,4 +243,4 @@ module _ (rule : Rule) (law : Lawful rule) (q : View) (a : Order) where
 pub runs-hold : Runs-hold
 runs-hold rule law q a st =
     let (met, chain) = chain-of rule law q a (in-play st) st (omega arith) in
-    record { met = met; chain = chain; only = λ others end c. same-chain rule law q a chain c }
+    record { met = met; links = chain; only = λ others end c. same-chain rule law q a chain c }

@@ -13,7 +13,7 @@ use Rattle.types.specs.declared.orders.StpInstruction.{StpInstruction}
 use Rattle.types.specs.declared.orders.StpInstruction.the-variants.{Off, TradeAndSuppress, CancelAndDecrement, CancelNewest, CancelOldest}
 use Rattle.prices.specs.Prices.{View}
 use Rattle.runs.specs.Slices.{Slice, volume-of, amount}
-use Rattle.runs.specs.Meetings.{Effect, trading, smaller-out, prevents, by-instruction, effect}
+use Rattle.runs.specs.Meetings.{Effect, trading, smaller-out, prevents, by-instruction, meeting}
 
 abbrev pub volume-left : Effect → ℕ
 volume-left f = f .shown + f .reserve
@@ -52,6 +52,6 @@ by-less (Some CancelAndDecrement) q a left s h k = smaller-less a left (s .resti
 by-less (Some CancelNewest) q a left s h k = omega arith
 by-less (Some CancelOldest) q a left s h k = omega (arith, amount-volume s k)
 
-pub less : (q : View) (a : Order) (left : ℕ) (s : Slice) → 0 < left → 0 < amount s → effect q a left s .left + volume-left (effect q a left s) < left + volume-of (s .resting)
-unfolding effect
+pub less : (q : View) (a : Order) (left : ℕ) (s : Slice) → 0 < left → 0 < amount s → meeting q a left s .left + volume-left (meeting q a left s) < left + volume-of (s .resting)
+unfolding meeting
 less q a left s h k = by-less (prevents a (s .resting .order)) q a left s h k

@@ -17,7 +17,7 @@ use Rattle.priority.specs.declared.Ahead.{Ahead}
 use Rattle.priority.specs.declared.Ahead.the-variants.{First, Second, Level}
 use Rattle.priority.specs.Priority.{Rule, Lawful, swapped, is-first, is-second}
 use Rattle.runs.specs.Lists.{In, find, foremost}
-use Rattle.runs.specs.Slices.{Slice, takes, slice, later, slices, taker, facts, ahead}
+use Rattle.runs.specs.Slices.{Slice, takes, slice-of, later, slices, taker, facts, ahead}
 use Rattle.runs.proofs.Lists.{foremost-none}
 use Rattle.runs.proofs.Slices.{ahead-self, ahead-trans}
 use Rattle.runs.proofs.Scans.{keep, step}
@@ -45,10 +45,10 @@ pub slices-snoc : (q : View) (a : Order) (xs : List RestingOrder) (o : RestingOr
 unfolding slices
 slices-snoc q a [] o = append-nil _
 slices-snoc q a (x ∷ xs) o =
-    ap (λ z. cond (takes q a (x .order)) (slice x false ++ slice x true) [] ++ map later z) (slices-snoc q a xs o)
-    ∙ ap (λ z. cond (takes q a (x .order)) (slice x false ++ slice x true) [] ++ z)
+    ap (λ z. cond (takes q a (x .order)) (slice-of x false ++ slice-of x true) [] ++ map later z) (slices-snoc q a xs o)
+    ∙ ap (λ z. cond (takes q a (x .order)) (slice-of x false ++ slice-of x true) [] ++ z)
     (map-append later (slices q a xs) (slices-at q a (length xs) o) ∙ ap (λ z. map later (slices q a xs) ++ z) (later-both q a (length xs) o))
-    ∙ sym (append-assoc (cond (takes q a (x .order)) (slice x false ++ slice x true) []) (map later (slices q a xs)) (slices-at q a (suc (length xs)) o))
+    ∙ sym (append-assoc (cond (takes q a (x .order)) (slice-of x false ++ slice-of x true) []) (map later (slices q a xs)) (slices-at q a (suc (length xs)) o))
 
 module _ (rule : Rule) (law : Lawful rule) (q : View) (a : Order) where
   over-three : (xy zy xz yx yz zx : Ahead) → yx ≡ swapped xy → yz ≡ swapped zy → zx ≡ swapped xz

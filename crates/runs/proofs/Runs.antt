@@ -16,8 +16,8 @@ use Rattle.prices.specs.Prices.{View}
 use Rattle.priority.specs.Priority.{Rule, Lawful}
 use Rattle.runs.specs.Lists.{In, At, foremost, at-place, sum-of}
 use Rattle.runs.specs.Slices.{Slice, volume-of, amount, takes, slices, ahead}
-use Rattle.runs.specs.Meetings.{Effect, effect}
-use Rattle.runs.specs.Runs.{Run, holding, meet, next-slice, meetings, in-play, run}
+use Rattle.runs.specs.Meetings.{Effect, meeting}
+use Rattle.runs.specs.Runs.{Progress, holding, meet, next-slice, meetings, in-play, run}
 use Rattle.runs.proofs.Lists.{at-in, sum-at-place, at-either, foremost-none, foremost-some}
 use Rattle.runs.proofs.Slices.{slice-ok, has-slice, ahead-self, ahead-trans}
 use Rattle.runs.proofs.Meetings.{less, amount-volume}
@@ -25,18 +25,18 @@ use Rattle.runs.proofs.Meetings.{less, amount-volume}
 -- What holds of the meetings of any rule.
 
 module _ (rule : Rule) (q : View) (a : Order) where
-  abbrev pub Top : Run → Slice → Type 0
+  abbrev pub Top : Progress → Slice → Type 0
   Top st s = In s (slices q a (st .others)) × ((t : Slice) → In t (slices q a (st .others)) → ahead rule q a t s ≡ false)
 
-  pub falls : (st : Run) → 0 < st .left → (s : Slice) → Top st s → meet q a st s .left + sum-of volume-of (meet q a st s .others) < in-play st
+  pub falls : (st : Progress) → 0 < st .left → (s : Slice) → Top st s → meet q a st s .left + sum-of volume-of (meet q a st s .others) < in-play st
   unfolding meet
   falls st h s (i, top) =
       let ok = slice-ok q a (st .others) s i in
-      let f : Effect = effect q a (st .left) s in
+      let f : Effect = meeting q a (st .left) s in
       omega (arith, less q a (st .left) s h (ok .some), sum-at-place volume-of (holding (f .shown) (f .reserve)) (s .place) (s .resting) (st .others) (ok .at))
 
   -- the slice that is met
-  pub chosen : (st : Run) (s : Slice) → next-slice rule q a st ≡ Some s → (0 < st .left) × Top st s
+  pub chosen : (st : Progress) (s : Slice) → next-slice rule q a st ≡ Some s → (0 < st .left) × Top st s
   unfolding next-slice
   chosen st s e = go (eqb (st .left) 0) refl e
     where
@@ -45,7 +45,7 @@ module _ (rule : Rule) (q : View) (a : Order) where
       go false x e = (omega (arith, eqb-false (st .left) 0 x), foremost-some (ahead rule q a) s (slices q a (st .others)) e)
 
   -- what each meeting keeps, all of them keep
-  pub meetings-keep : (P : Run → Type 0) → ((st : Run) → P st → (s : Slice) → Top st s → P (meet q a st s)) → (n : ℕ) (st : Run) → P st → P (meetings rule q a n st)
+  pub meetings-keep : (P : Progress → Type 0) → ((st : Progress) → P st → (s : Slice) → Top st s → P (meet q a st s)) → (n : ℕ) (st : Progress) → P st → P (meetings rule q a n st)
   unfolding meetings
   meetings-keep P f zero st p = p
   meetings-keep P f (suc n) st p = go (next-slice rule q a st) refl (λ s e. meetings-keep P f n (meet q a st s) (f st p s (chosen st s e .1)))
@@ -55,7 +55,7 @@ module _ (rule : Rule) (q : View) (a : Order) where
       go None e ih = p
       go (Some s) e ih = ih s e
 
-  pub meetings-end : (n : ℕ) (st : Run) → in-play st ≤ n → next-slice rule q a (meetings rule q a n st) ≡ None
+  pub meetings-end : (n : ℕ) (st : Progress) → in-play st ≤ n → next-slice rule q a (meetings rule q a n st) ≡ None
   unfolding meetings
   meetings-end zero st h = ended (next-slice rule q a st) refl
     where
@@ -70,16 +70,16 @@ module _ (rule : Rule) (q : View) (a : Order) where
       go (Some s) e ih = ih s e
 
   -- the equations of a run, with no count of meetings
-  meetings-stop : (n : ℕ) (st : Run) → next-slice rule q a st ≡ None → meetings rule q a n st ≡ st
+  meetings-stop : (n : ℕ) (st : Progress) → next-slice rule q a st ≡ None → meetings rule q a n st ≡ st
   unfolding meetings
   meetings-stop zero st e = refl
   meetings-stop (suc n) st e = ap (λ (x : Option Slice). elim x [ None ↦ st | Some s ↦ meetings rule q a n (meet q a st s) ]) e
 
-  meetings-next : (n : ℕ) (st : Run) (s : Slice) → next-slice rule q a st ≡ Some s → meetings rule q a (suc n) st ≡ meetings rule q a n (meet q a st s)
+  meetings-next : (n : ℕ) (st : Progress) (s : Slice) → next-slice rule q a st ≡ Some s → meetings rule q a (suc n) st ≡ meetings rule q a n (meet q a st s)
   unfolding meetings
   meetings-next n st s e = ap (λ (x : Option Slice). elim x [ None ↦ st | Some s ↦ meetings rule q a n (meet q a st s) ]) e
 
-  meetings-enough : (n m : ℕ) (st : Run) → in-play st ≤ n → in-play st ≤ m → meetings rule q a n st ≡ meetings rule q a m st
+  meetings-enough : (n m : ℕ) (st : Progress) → in-play st ≤ n → in-play st ≤ m → meetings rule q a n st ≡ meetings rule q a m st
   meetings-enough zero m st h k = meetings-stop zero st (none (next-slice rule q a st) refl) ∙ sym (meetings-stop m st (none (next-slice rule q a st) refl))
     where
       none : (x : Option Slice) → next-slice rule q a st ≡ x → next-slice rule q a st ≡ None
@@ -94,11 +94,11 @@ module _ (rule : Rule) (q : View) (a : Order) where
       go zero k (Some s) e ih = absurd (omega (arith, chosen st s e .0))
       go (suc m) k (Some s) e ih = meetings-next n st s e ∙ ih m s e (omega (arith, falls st (chosen st s e .0) s (chosen st s e .1))) ∙ sym (meetings-next m st s e)
 
-  pub run-stop : (st : Run) → next-slice rule q a st ≡ None → run rule q a st ≡ st
+  pub run-stop : (st : Progress) → next-slice rule q a st ≡ None → run rule q a st ≡ st
   unfolding run
   run-stop st e = meetings-stop _ st e
 
-  pub run-next : (st : Run) (s : Slice) → next-slice rule q a st ≡ Some s → run rule q a st ≡ run rule q a (meet q a st s)
+  pub run-next : (st : Progress) (s : Slice) → next-slice rule q a st ≡ Some s → run rule q a st ≡ run rule q a (meet q a st s)
   unfolding run
   run-next st s e =
       let less = falls st (chosen st s e .0) s (chosen st s e .1) in
@@ -106,33 +106,33 @@ module _ (rule : Rule) (q : View) (a : Order) where
       ∙ meetings-enough (in-play st) (in-play (meet q a st s)) (meet q a st s) (omega arith) (omega arith)
 
   -- an order with no volume is not met
-  abbrev pub Empty-at : ℕ → Run → Type 0
+  abbrev pub Empty-at : ℕ → Progress → Type 0
   Empty-at k st = (x : RestingOrder) × At (st .others) k x × (volume-of x ≡ 0)
 
-  empty-step : (k : ℕ) (st : Run) → Empty-at k st → (s : Slice) → Top st s → Empty-at k (meet q a st s)
+  empty-step : (k : ℕ) (st : Progress) → Empty-at k st → (s : Slice) → Top st s → Empty-at k (meet q a st s)
   unfolding meet
   empty-step k st (x, at, none) s (i, top) =
       let ok = slice-ok q a (st .others) s i in
-      let f : Effect = effect q a (st .left) s in
+      let f : Effect = meeting q a (st .left) s in
       elim (at-either (s .place) k (holding (f .shown) (f .reserve)) x (s .resting) (st .others) (ok .at) at) [
         | inl e ↦ absurd (omega (arith, amount-volume s (ok .some), ap volume-of e))
         | inr at′ ↦ (x, at′, none)
       ]
 
-  pub run-empty : (k : ℕ) (st : Run) → Empty-at k st → Empty-at k (run rule q a st)
+  pub run-empty : (k : ℕ) (st : Progress) → Empty-at k st → Empty-at k (run rule q a st)
   unfolding run
   run-empty k st h = meetings-keep (Empty-at k) (empty-step k) (in-play st) st h
 
-  pub run-keep : (P : Run → Type 0) → ((st : Run) → P st → (s : Slice) → Top st s → P (meet q a st s)) → (st : Run) → P st → P (run rule q a st)
+  pub run-keep : (P : Progress → Type 0) → ((st : Progress) → P st → (s : Slice) → Top st s → P (meet q a st s)) → (st : Progress) → P st → P (run rule q a st)
   unfolding run
   run-keep P f st p = meetings-keep P f (in-play st) st p
 
-  pub run-end : (st : Run) → next-slice rule q a (run rule q a st) ≡ None
+  pub run-end : (st : Progress) → next-slice rule q a (run rule q a st) ≡ None
   unfolding run
   run-end st = meetings-end (in-play st) st (omega arith)
 
 module _ (rule : Rule) (law : Lawful rule) (q : View) (a : Order) where
-  none-left : (st : Run) → next-slice rule q a st ≡ None → 0 < st .left → (o : RestingOrder) → In o (st .others) → 0 < volume-of o → takes q a (o .order) ≡ false
+  none-left : (st : Progress) → next-slice rule q a st ≡ None → 0 < st .left → (o : RestingOrder) → In o (st .others) → 0 < volume-of o → takes q a (o .order) ≡ false
   unfolding next-slice
   none-left st e h o i v = go (eqb (st .left) 0) refl e (takes q a (o .order)) refl
     where
@@ -144,29 +144,29 @@ module _ (rule : Rule) (law : Lawful rule) (q : View) (a : Order) where
       go false x e false t = t
 
   -- a run ends when its order is used up, or may take no order with volume
-  pub run-done : (st : Run) → 0 < run rule q a st .left → (o : RestingOrder) → In o (run rule q a st .others) → 0 < volume-of o → takes q a (o .order) ≡ false
+  pub run-done : (st : Progress) → 0 < run rule q a st .left → (o : RestingOrder) → In o (run rule q a st .others) → 0 < volume-of o → takes q a (o .order) ≡ false
   run-done st h o i v = none-left (run rule q a st) (run-end rule q a st) h o i v
 
 -- A run goes on from any earlier reports, and adds its own.
 
-abbrev pub after : List Report → Run → Run
+abbrev pub after : List Report → Progress → Progress
 after old st = record { left = st .left; others = st .others; log = st .log ++ old }
 
 module _ (rule : Rule) (q : View) (a : Order) (old : List Report) where
-  meet-after : (st : Run) (s : Slice) → meet q a (after old st) s ≡ after old (meet q a st s)
+  meet-after : (st : Progress) (s : Slice) → meet q a (after old st) s ≡ after old (meet q a st s)
   unfolding meet
-  meet-after st s = ap (λ (l : List Report). record { left = meet q a st s .left; others = meet q a st s .others; log = l }) (sym (append-assoc (effect q a (st .left) s .reports) (st .log) old))
+  meet-after st s = ap (λ (l : List Report). record { left = meet q a st s .left; others = meet q a st s .others; log = l }) (sym (append-assoc (meeting q a (st .left) s .reports) (st .log) old))
 
-  next-after : (st : Run) → next-slice rule q a (after old st) ≡ next-slice rule q a st
+  next-after : (st : Progress) → next-slice rule q a (after old st) ≡ next-slice rule q a st
   unfolding next-slice
   next-after st = refl
 
-  meetings-after : (n : ℕ) (st : Run) → meetings rule q a n (after old st) ≡ after old (meetings rule q a n st)
+  meetings-after : (n : ℕ) (st : Progress) → meetings rule q a n (after old st) ≡ after old (meetings rule q a n st)
   unfolding meetings
   meetings-after zero st = refl
   meetings-after (suc n) st = ap (λ (x : Option Slice). onward x) (next-after st) ∙ go (next-slice rule q a st) (λ s. ap (meetings rule q a n) (meet-after st s) ∙ meetings-after n (meet q a st s))
     where
-      onward : Option Slice → Run
+      onward : Option Slice → Progress
       onward x = elim x [ None ↦ after old st | Some s ↦ meetings rule q a n (meet q a (after old st) s) ]
 
       go : (x : Option Slice) → ((s : Slice) → meetings rule q a n (meet q a (after old st) s) ≡ after old (meetings rule q a n (meet q a st s)))
@@ -174,6 +174,6 @@ module _ (rule : Rule) (q : View) (a : Order) (old : List Report) where
       go None ih = refl
       go (Some s) ih = ih s
 
-  pub run-after : (st : Run) → run rule q a (after old st) ≡ after old (run rule q a st)
+  pub run-after : (st : Progress) → run rule q a (after old st) ≡ after old (run rule q a st)
   unfolding run
   run-after st = meetings-after _ st

@@ -14,11 +14,11 @@ use Rattle.priority.specs.declared.Ahead.{Ahead}
 use Rattle.priority.specs.declared.Ahead.the-variants.{First, Second, Level}
 use Rattle.priority.specs.Priority.{Rule, Lawful, swapped, is-first, is-second, better}
 use Rattle.runs.specs.Lists.{In, At}
-use Rattle.runs.specs.Slices.{Slice, volume-of, volume-in, amount, takes, slice, later, slices, taker, facts, ahead}
+use Rattle.runs.specs.Slices.{Slice, volume-of, volume-in, amount, takes, slice-of, later, slices, taker, facts, ahead}
 use Rattle.runs.specs.Chains.{Open-to}
 use Rattle.runs.proofs.Lists.{in-append, in-left, in-right, in-map, map-in}
 
-pub slice-is : (o : RestingOrder) (h : Bool) (s : Slice) → In s (slice o h) → (s ≡ record { place = 0; resting = o; hidden = h }) × (0 < amount s)
+pub slice-is : (o : RestingOrder) (h : Bool) (s : Slice) → In s (slice-of o h) → (s ≡ record { place = 0; resting = o; hidden = h }) × (0 < amount s)
 slice-is o h s i = go (ltb 0 (cond h (o .reserve .shares) (o .shown .shares))) refl i
   where
     go : (b : Bool) → ltb 0 (cond h (o .reserve .shares) (o .shown .shares)) ≡ b → In s (cond b (record { place = 0; resting = o; hidden = h } ∷ []) []) → (s ≡ record { place = 0; resting = o; hidden = h }) × (0 < amount s)
@@ -30,24 +30,24 @@ pub slice-ok : (q : View) (a : Order) (os : List RestingOrder) (s : Slice) → I
 unfolding slices
 slice-ok q a [] s i = absurd i
 slice-ok q a (o ∷ os) s i =
-    elim (in-append s (cond (takes q a (o .order)) (slice o false ++ slice o true) []) (map later (slices q a os)) i) [
+    elim (in-append s (cond (takes q a (o .order)) (slice-of o false ++ slice-of o true) []) (map later (slices q a os)) i) [
       | inl k ↦ first (takes q a (o .order)) refl k
       | inr k ↦ let (t, j, e) = in-map later s (slices q a os) k in behind t (slice-ok q a os t j) e
     ]
   where
-    from : (h : Bool) → takes q a (o .order) ≡ true → In s (slice o h) → Open-to q a (o ∷ os) s
+    from : (h : Bool) → takes q a (o .order) ≡ true → In s (slice-of o h) → Open-to q a (o ∷ os) s
     from h e k =
         let (i, m) = slice-is o h s k in
         subst (Open-to q a (o ∷ os)) (sym i) (record { at = refl; taken = e; some = subst (λ z. 0 < amount z) i m })
 
-    first : (b : Bool) → takes q a (o .order) ≡ b → In s (cond b (slice o false ++ slice o true) []) → Open-to q a (o ∷ os) s
-    first true e k = elim (in-append s (slice o false) (slice o true) k) [ inl j ↦ from false e j | inr j ↦ from true e j ]
+    first : (b : Bool) → takes q a (o .order) ≡ b → In s (cond b (slice-of o false ++ slice-of o true) []) → Open-to q a (o ∷ os) s
+    first true e k = elim (in-append s (slice-of o false) (slice-of o true) k) [ inl j ↦ from false e j | inr j ↦ from true e j ]
     first false e k = absurd k
 
     behind : (t : Slice) → Open-to q a os t → s ≡ later t → Open-to q a (o ∷ os) s
     behind t r e = subst (Open-to q a (o ∷ os)) (sym e) (record { at = r .at; taken = r .taken; some = r .some })
 
-slice-has : (o : RestingOrder) → 0 < volume-of o → (s : Slice) × In s (slice o false ++ slice o true) × (s .resting ≡ o)
+slice-has : (o : RestingOrder) → 0 < volume-of o → (s : Slice) × In s (slice-of o false ++ slice-of o true) × (s .resting ≡ o)
 slice-has o h = go (ltb 0 (o .shown .shares)) refl (ltb 0 (o .reserve .shares)) refl
   where
     go : (b : Bool) → ltb 0 (o .shown .shares) ≡ b → (c : Bool) → ltb 0 (o .reserve .shares) ≡ c
@@ -63,31 +63,31 @@ has-slice q a [] o i t h = absurd i
 has-slice q a (x ∷ os) o (inl e) t h =
     let (s, j, k) = slice-has o h in (
       s,
-      subst (λ x. In s (cond (takes q a (x .order)) (slice x false ++ slice x true) [] ++ map later (slices q a os))) e
-          (rw t (in-left s (slice o false ++ slice o true) (map later (slices q a os)) j)),
+      subst (λ x. In s (cond (takes q a (x .order)) (slice-of x false ++ slice-of x true) [] ++ map later (slices q a os))) e
+          (rw t (in-left s (slice-of o false ++ slice-of o true) (map later (slices q a os)) j)),
       k,
     )
 has-slice q a (x ∷ os) o (inr i) t h =
     let (s, j, k) = has-slice q a os o i t h in
-    (later s, in-right (later s) (cond (takes q a (x .order)) (slice x false ++ slice x true) []) (map later (slices q a os)) (map-in later s (slices q a os) j), k)
+    (later s, in-right (later s) (cond (takes q a (x .order)) (slice-of x false ++ slice-of x true) []) (map later (slices q a os)) (map-in later s (slices q a os) j), k)
 
 -- every such slice is among them
-slice-in : (o : RestingOrder) (h : Bool) → 0 < volume-in o h → In (record { place = 0; resting = o; hidden = h }) (slice o h)
+slice-in : (o : RestingOrder) (h : Bool) → 0 < volume-in o h → In (record { place = 0; resting = o; hidden = h }) (slice-of o h)
 slice-in o h p = rw (lt-ltb 0 (volume-in o h) p) (inl refl)
 
-either-in : (o : RestingOrder) (h : Bool) → 0 < volume-in o h → In (record { place = 0; resting = o; hidden = h }) (slice o false ++ slice o true)
-either-in o false p = in-left (record { place = 0; resting = o; hidden = false }) (slice o false) (slice o true) (slice-in o false p)
-either-in o true p = in-right (record { place = 0; resting = o; hidden = true }) (slice o false) (slice o true) (slice-in o true p)
+either-in : (o : RestingOrder) (h : Bool) → 0 < volume-in o h → In (record { place = 0; resting = o; hidden = h }) (slice-of o false ++ slice-of o true)
+either-in o false p = in-left (record { place = 0; resting = o; hidden = false }) (slice-of o false) (slice-of o true) (slice-in o false p)
+either-in o true p = in-right (record { place = 0; resting = o; hidden = true }) (slice-of o false) (slice-of o true) (slice-in o true p)
 
 open-at : (q : View) (a : Order) (os : List RestingOrder) (k : ℕ) (o : RestingOrder) (h : Bool) → At os k o → takes q a (o .order) ≡ true → 0 < volume-in o h
     → In (record { place = k; resting = o; hidden = h }) (slices q a os)
 unfolding slices
 open-at q a [] k o h at t p = absurd at
 open-at q a (x ∷ os) zero o h at t p =
-    subst (λ (x : RestingOrder). In (record { place = 0; resting = o; hidden = h }) (cond (takes q a (x .order)) (slice x false ++ slice x true) [] ++ map later (slices q a os))) (sym at)
-    (rw t (in-left (record { place = 0; resting = o; hidden = h }) (slice o false ++ slice o true) (map later (slices q a os)) (either-in o h p)))
+    subst (λ (x : RestingOrder). In (record { place = 0; resting = o; hidden = h }) (cond (takes q a (x .order)) (slice-of x false ++ slice-of x true) [] ++ map later (slices q a os))) (sym at)
+    (rw t (in-left (record { place = 0; resting = o; hidden = h }) (slice-of o false ++ slice-of o true) (map later (slices q a os)) (either-in o h p)))
 open-at q a (x ∷ os) (suc k) o h at t p =
-    in-right (record { place = suc k; resting = o; hidden = h }) (cond (takes q a (x .order)) (slice x false ++ slice x true) []) (map later (slices q a os))
+    in-right (record { place = suc k; resting = o; hidden = h }) (cond (takes q a (x .order)) (slice-of x false ++ slice-of x true) []) (map later (slices q a os))
     (map-in later (record { place = k; resting = o; hidden = h }) (slices q a os) (open-at q a os k o h at t p))
 
 pub open-in : (q : View) (a : Order) (os : List RestingOrder) (s : Slice) → Open-to q a os s → In s (slices q a os)

@@ -89,7 +89,7 @@ prevents a b =
     (Some (a .entry .instruction))
     None
 
--- Without an instruction they trade, as they do under the first one, which marks the report suppressed.
+-- Without an instruction they trade; trade and suppress marks the report, and each of the others cancels.
 abbrev pub by-instruction : Option StpInstruction → View → Order → ℕ → Slice → Effect
 by-instruction None view a left s = trading view a left s false
 by-instruction (Some Off) view a left s = trading view a left s false
@@ -99,5 +99,5 @@ by-instruction (Some CancelNewest) view a left s = active-out a left (s .resting
 by-instruction (Some CancelOldest) view a left s = resting-out left (s .resting)
 
 -- What comes of the meeting of a, with so much left, and the slice.
-unfoldable pub effect : View → Order → ℕ → Slice → Effect
-effect view a left s = by-instruction (prevents a (s .resting .order)) view a left s
+unfoldable pub meeting : View → Order → ℕ → Slice → Effect
+meeting view a left s = by-instruction (prevents a (s .resting .order)) view a left s

@@ -16,10 +16,10 @@ use Rattle.prices.specs.Prices.{View}
 use Rattle.priority.specs.Priority.{Rule}
 use Rattle.runs.specs.Lists.{foremost, at-place, sum-of}
 use Rattle.runs.specs.Slices.{Slice, volume-of, slices, ahead}
-use Rattle.runs.specs.Meetings.{Effect, shares, effect}
+use Rattle.runs.specs.Meetings.{Effect, shares, meeting}
 
 -- What is left of the active order, the resting orders in their places, and the reports so far, the newest first.
-pub record Run : Type 0 where
+pub record Progress : Type 0 where
   pub left : ℕ
   pub others : List RestingOrder
   pub log : List Report
@@ -33,26 +33,26 @@ abbrev pub holding : ℕ → ℕ → RestingOrder → RestingOrder
 holding shown reserve o = resting (o .order) shown reserve
 
 -- The active order meets the slice.
-unfoldable pub meet : View → Order → Run → Slice → Run
+unfoldable pub meet : View → Order → Progress → Slice → Progress
 meet view a st s =
-    let f : Effect = effect view a (st .left) s in
+    let f : Effect = meeting view a (st .left) s in
     record { left = f .left; others = at-place (s .place) (holding (f .shown) (f .reserve)) (st .others); log = f .reports ++ st .log }
 
 -- The slice that it meets next, while it has volume: the foremost one of those that it may take.
-unfoldable pub next-slice : Rule → View → Order → Run → Option Slice
+unfoldable pub next-slice : Rule → View → Order → Progress → Option Slice
 next-slice rule view a st = cond (eqb (st .left) 0) None (foremost (ahead rule view a) (slices view a (st .others)))
 
 -- At most n meetings.
-unfoldable pub meetings : Rule → View → Order → ℕ → Run → Run
+unfoldable pub meetings : Rule → View → Order → ℕ → Progress → Progress
 meetings rule view a zero st = st
 meetings rule view a (suc n) st = elim (next-slice rule view a st) [ None ↦ st | Some s ↦ meetings rule view a n (meet view a st s) ]
 
 -- All volume in play; each meeting takes some of it off.
-abbrev pub in-play : Run → ℕ
+abbrev pub in-play : Progress → ℕ
 in-play st = st .left + sum-of volume-of (st .others)
 
 -- Meetings until there is no next slice: there are no more of them than there is volume in play.
-unfoldable pub run : Rule → View → Order → Run → Run
+unfoldable pub run : Rule → View → Order → Progress → Progress
 run rule view a st = meetings rule view a (in-play st) st
 
 -- What a run leaves.

@@ -35,8 +35,8 @@ abbrev pub takes : View → Order → Order → Bool
 takes view a b = may-take view (a .entry) (b .entry)
 
 -- The first order's slice, where it is not empty.
-abbrev pub slice : RestingOrder → Bool → List Slice
-slice o hidden = cond (ltb 0 (volume-in o hidden)) (record { place = 0; resting = o; hidden = hidden } ∷ []) []
+abbrev pub slice-of : RestingOrder → Bool → List Slice
+slice-of o hidden = cond (ltb 0 (volume-in o hidden)) (record { place = 0; resting = o; hidden = hidden } ∷ []) []
 
 -- The same slice where one more order stands before it on the list.
 abbrev pub later : Slice → Slice
@@ -45,7 +45,7 @@ later s = record { place = suc (s .place); resting = s .resting; hidden = s .hid
 -- The non-empty slices of the orders that a may take, in the sequence of the time list.
 unfoldable pub slices : View → Order → List RestingOrder → List Slice
 slices view a [] = []
-slices view a (o ∷ os) = cond (takes view a (o .order)) (slice o false ++ slice o true) [] ++ map later (slices view a os)
+slices view a (o ∷ os) = cond (takes view a (o .order)) (slice-of o false ++ slice-of o true) [] ++ map later (slices view a os)
 
 -- The price at which a resting order trades.
 abbrev pub offered : View → RestingOrder → Price
