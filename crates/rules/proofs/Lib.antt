@@ -1,0 +1,12 @@
+pub mod Cases
+pub mod Prices
+pub mod Meetings
+pub mod Sound
+pub mod Tidied
+pub mod Inv
+pub mod Enter
+pub mod Requote
+pub mod Quotes
+pub mod Day
+pub mod Shows
+pub mod Served

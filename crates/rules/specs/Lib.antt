@@ -1,0 +1,11 @@
+pub mod SetUps
+pub mod Accounts
+pub mod States
+pub mod Entering
+pub mod Requotes
+pub mod Calls
+pub mod Refusals
+pub mod Served
+pub mod Days
+pub mod Laws
+pub mod Cases

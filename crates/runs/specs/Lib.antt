@@ -1,0 +1,5 @@
+pub mod Lists
+pub mod Slices
+pub mod Meetings
+pub mod Runs
+pub mod Chains
