@@ -21,9 +21,9 @@ sent-more start was after reports i d h e f =
 -- a list that has grown alike has got what was sent
 pub copied : (a b c d reports : List Report) (space left : ℕ) (r : Result (Unit {0}) ChannelFault) → Sent a space reports r c left → Alike a b c d
     → Copied b reports r d
-copied a b c d reports space left (Ok x) s (more , p , q) =
+copied a b c d reports space left (Ok x) s (more, p, q) =
     q ∙ ap (λ rs. b ++ rs) (append-cancel-left a more reports (sym p ∙ s .1))
-copied a b c d reports space left (Err x) s (more , p , q) =
+copied a b c d reports space left (Err x) s (more, p, q) =
     q ∙ ap (λ rs. b ++ rs) (append-cancel-left a more [] (sym p ∙ s .1 ∙ sym (append-nil a))) ∙ append-nil b
 
 pub sent-all : (start list reports : List Report) (i : ℕ) → list ≡ start ++ take i reports → length reports ≤ i → list ≡ start ++ reports

@@ -76,6 +76,7 @@ read-back zero b a l h = tt
 read-back (suc n) b a l h =
     let one : 21 ≤ length b = omega arith in
     let e = first-read b a one (h .0) in
-    let more : n * 21 ≤ length (drop 21 b) = omega (arith, length-drop 21 b) in
-    ( ap (λ (x : Read Report). x .answer) e
-    , subst (λ c. Reads c (reports-in n (drop 21 b))) (sym (ap (λ (x : Read Report). x .rest) e)) (read-back n (drop 21 b) (all-drop (λ x. x < 256) 21 b a) more (h .1)))
+    let more : n * 21 ≤ length (drop 21 b) = omega (arith, length-drop 21 b) in (
+      ap (λ (x : Read Report). x .answer) e,
+      subst (λ c. Reads c (reports-in n (drop 21 b))) (sym (ap (λ (x : Read Report). x .rest) e)) (read-back n (drop 21 b) (all-drop (λ x. x < 256) 21 b a) more (h .1)),
+    )

@@ -17,7 +17,7 @@ abbrev pub Alike : List Report → List Report → List Report → List Report �
 Alike a b c d = (more : List Report) × (c ≡ a ++ more) × (d ≡ b ++ more)
 
 alike-more : (a b c d e f : List Report) → Alike a b c d → Alike c d e f → Alike a b e f
-alike-more a b c d e f (xs , p , q) (ys , u , v) =
+alike-more a b c d e f (xs, p, q) (ys, u, v) =
     (xs ++ ys, u ∙ ap (λ l. l ++ ys) p ∙ append-assoc a xs ys, v ∙ ap (λ l. l ++ ys) q ∙ append-assoc b xs ys)
 
 -- Of two channels each follows what it was, and their lists have grown by the same reports.
@@ -28,8 +28,9 @@ pub both-last : {S P Q : Type 0} {p : P → P → Type 0} {q : Q → Q → Type 
     → Lasting p → Lasting q → Lasting (λ (x y : S). Both p q m n (f x) (g x) (f y) (g y))
 both-last f g m n h k = record {
   stays = λ x. (h .stays (f x), k .stays (g x), ([], sym (append-nil (m (f x))), sym (append-nil (n (g x)))));
-  lasts = λ x y z a b.
-    ( h .lasts (f x) (f y) (f z) (a .0) (b .0)
-    , k .lasts (g x) (g y) (g z) (a .1) (b .1)
-    , alike-more (m (f x)) (n (g x)) (m (f y)) (n (g y)) (m (f z)) (n (g z)) (a .2) (b .2));
+  lasts = λ x y z a b. (
+    h .lasts (f x) (f y) (f z) (a .0) (b .0),
+    k .lasts (g x) (g y) (g z) (a .1) (b .1),
+    alike-more (m (f x)) (n (g x)) (m (f y)) (n (g y)) (m (f z)) (n (g z)) (a .2) (b .2),
+  );
 }

@@ -1,11 +1,14 @@
 //! Report frames one after another.
 ghost use mathlib.Core.Path.{_≡_};
-ghost use Prim.Native.Nat.{_-_};
+ghost use Prim.Native.Nat.{_-_, _/_, _<_};
+ghost use lib.ListN.{length};
+ghost use Rattle.std.specs.Results.{Cases};
 ghost use denote.Ref.{now, name};
 ghost use Rattle.wire.specs.Reports.{report-bytes};
 ghost use Rattle.channel.specs.Following.{same-by};
 ghost use Rattle.channel.specs.Frames.{report-in, reports-in, frames-left, Read-back};
 use crate::channel::Channel;
+use crate::channel::put_all;
 use faults::ChannelFault;
 use types::Report;
 use wire::report_bytes;
@@ -22,6 +25,7 @@ impl<'a> ReportBytes<'a> {
     pub fn new(bytes: &'a mut [u8]) -> ReportBytes<'a>
         ensures empty { λ r. ⌜ r .frames ≡ 0 ⌝ }
         ensures same { λ r. ⌜ now (r .bytes) ≡ now (bytes .entry) ⌝ }
+        ensures lent { λ r. ⌜ name (r .bytes) ≡ name (bytes .entry) ⌝ }
     {
         ReportBytes { bytes, frames: 0 }
     }
@@ -57,6 +61,15 @@ pub impl Channel for ReportBytes<'_> as ByteChannel {
     fn space(&self) -> usize {
         (self.bytes.len() / 21).saturating_sub(self.frames)
     }
+}
+
+/// Writes the reports as frames from the first byte on, and answers how many they are.
+pub fn write_reports(bytes: &mut [u8], reports: &[Report]) -> Result<usize, ChannelFault>
+    ensures { λ r. ⌜ Cases r (λ n. reports-in n (now (bytes .exit)) ≡ now (reports .entry)) (λ _. length (now (bytes .entry)) / 21 < length (now (reports .entry))) ⌝ }
+{
+    let mut channel = ReportBytes::new(bytes);
+    put_all(&mut channel, reports)?;
+    Ok(channel.frames)
 }
 
 /// The list of a byte channel is what the frame reader makes of its bytes, where no report is a blank.

@@ -21,6 +21,7 @@ impl<'a> ReportList<'a> {
     pub fn new(places: &'a mut [Report]) -> ReportList<'a>
         ensures empty { λ r. ⌜ r .used ≡ 0 ⌝ }
         ensures same { λ r. ⌜ now (r .places) ≡ now (places .entry) ⌝ }
+        ensures lent { λ r. ⌜ name (r .places) ≡ name (places .entry) ⌝ }
     {
         ReportList { places, used: 0 }
     }

@@ -7,11 +7,12 @@ use Rattle.channel.proofs.channel.put_all.Needs as need
 pub loop-i-again : need.loop-i-again
 loop-i-again g c =
     let p = c .in-Continue-put .ensures tt .sent in
-    let h : c .loop-i .i < length (c .args .reports .now) = omega arith in
-    ( omega arith
-    , sent-more _ _ _ _ _ _ h (c .loop-i .inv .1) (p .1)
-    , omega (arith, p .0, p .2, c .loop-i .inv .2)
-    , g .C·Channel .lasting .lasts _ _ _ (c .loop-i .inv .3) (c .put .ensures .follows))
+    let h : c .loop-i .i < length (c .args .reports .now) = omega arith in (
+      omega arith,
+      sent-more _ _ _ _ _ _ h (c .loop-i .inv .1) (p .1),
+      omega (arith, p .0, p .2, c .loop-i .inv .2),
+      g .C·Channel .lasting .lasts _ _ _ (c .loop-i .inv .3) (c .put .ensures .follows),
+    )
 
 pub returns : need.returns
 returns g c =
