@@ -1,0 +1,6 @@
+pub mod Rings
+pub mod Lookups
+pub mod Counts
+pub mod Walks
+pub mod Writes
+pub mod Shifts
