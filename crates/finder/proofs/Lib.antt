@@ -4,3 +4,5 @@ pub mod Counts
 pub mod Walks
 pub mod Writes
 pub mod Shifts
+pub mod Letters
+pub mod Props

@@ -17,7 +17,7 @@ use Rattle.finder.specs.declared.search.Seek.the-variants.{Open}
 use Rattle.finder.specs.declared.cells.Cell.{Cell}
 use Rattle.finder.specs.declared.cells.Cell.the-variants.{Free, Used}
 use Rattle.finder.specs.Cells.{lookup, taken, at, gap, home, Rules, Sound, Sound-but}
-use Rattle.finder.specs.Searching.{found, held, Sought, Inserted}
+use Rattle.finder.specs.Searching.{found, held, Sought, Inserted, Removed}
 use Rattle.finder.proofs.Lookups.{free-not-used, lookup-none, lookup-some, lookup-set}
 use Rattle.finder.proofs.Counts.{one, taken-set, taken-most}
 
@@ -101,7 +101,7 @@ module _ {K V : Type 0} (e : K → K → Bool) (dec : (x y : K) → Decides (e x
       ]
 
   -- and after k's cell is set free
-  pub found-free : (k : K) (v : V) → at cs i ≡ Used k v → (q : K) → lookup e (set cs i Free) q ≡ update e (lookup e cs) k None q
+  found-free : (k : K) (v : V) → at cs i ≡ Used k v → (q : K) → lookup e (set cs i Free) q ≡ update e (lookup e cs) k None q
   found-free k v here q =
       elim (cases-bool (e q k)) [
         inl t ↦ (
@@ -119,8 +119,16 @@ module _ {K V : Type 0} (e : K → K → Bool) (dec : (x y : K) → Decides (e x
           | inr p ↦ p (sound .once j i k w v (sym (getD-set-other cs i j Free Free p) ∙ h) here)
           ]
 
-  pub taken-free : (k : K) (v : V) → at cs i ≡ Used k v → taken (set cs i Free) + 1 ≡ taken cs
+  taken-free : (k : K) (v : V) → at cs i ≡ Used k v → taken (set cs i Free) + 1 ≡ taken cs
   taken-free k v here = omega (arith, taken-set cs i Free within, ap one here)
+
+  -- k's cell was set free, and each key finds in ds what it finds then
+  pub here-removed : (k : K) (v : V) (old : Option V) (ds : List (Cell K V)) → at cs i ≡ Used k v → lookup e cs k ≡ Some v → old ≡ held (at cs i)
+      → ((q : K) → lookup e ds q ≡ lookup e (set cs i Free) q) → taken ds ≡ taken (set cs i Free) → Removed e cs k old ds
+  here-removed k v old ds h s o finds count =
+      let is : old ≡ Some v = o ∙ ap held h in
+      let counted : found old ≡ 1 = ap found is in
+      (is ∙ sym s, λ q. finds q ∙ found-free k v h q, omega (arith, count, taken-free k v h, counted))
 
   pub here-sound : (k : K) (v w : V) → at cs i ≡ Used k w → Sound number (set cs i (Used k v))
   here-sound k v w h =

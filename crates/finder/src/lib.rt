@@ -7,6 +7,7 @@
 mod cells;
 mod finder;
 mod key;
+mod keys;
 mod search;
 mod shift;
 
@@ -16,3 +17,5 @@ pub use finder::Finder;
 pub use key::Key;
 pub use key::NumberKey;
 pub use key::scatter;
+pub use keys::OrderKey;
+pub use keys::TraderKey;
