@@ -24,8 +24,8 @@ free-not-used c k v f u = let z : _≡_ {A = ℕ} 0 1 = cc in omega arith
 pub used-below : {K V : Type 0} (cs : List (Cell K V)) (i : ℕ) (k : K) (v : V) → at cs i ≡ Used k v → i < length cs
 used-below cs i k v h =
     elim (cases-lt i (length cs)) [
-      inl l ↦ l
-    | inr l ↦ absurd (free-not-used (at cs i) k v (getD-past cs i Free l) h)
+      | inl l ↦ l
+      | inr l ↦ absurd (free-not-used (at cs i) k v (getD-past cs i Free l) h)
     ]
 
 module _ {K V : Type 0} (e : K → K → Bool) (dec : (x y : K) → Decides (e x y) (x ≡ y)) where

@@ -45,11 +45,11 @@ module _ {K V : Type 0} (number : K → ℕ) (n hole j : ℕ) where
   step-move Free h = let z : _≡_ {A = ℕ} 0 1 = cc in absurd (omega arith)
   step-move (Used k v) h =
       elim (cases-lt (gap n (home number n k) hole) (gap n (home number n k) j)) [
-        inl l ↦ (k, v, refl, l)
-      | inr l ↦ (
-          let t : ltb (gap n (home number n k) hole) (gap n (home number n k) j) ≡ false = grind (arith, tells) in
-          let s : Move ≡ cond false Move Stay = h ∙ ap (λ b. cond b Move Stay) t in
-          let z : _≡_ {A = ℕ} 0 1 = cc in absurd (omega arith))
+        | inl l ↦ (k, v, refl, l)
+        | inr l ↦ (
+            let t : ltb (gap n (home number n k) hole) (gap n (home number n k) j) ≡ false = grind (arith, tells) in
+            let s : Move ≡ cond false Move Stay = h ∙ ap (λ b. cond b Move Stay) t in
+            let z : _≡_ {A = ℕ} 0 1 = cc in absurd (omega arith))
       ]
 
 module _ {K V : Type 0} (e : K → K → Bool) (dec : (x y : K) → Decides (e x y) (x ≡ y)) (number : K → ℕ) where
@@ -78,8 +78,8 @@ module _ {K V : Type 0} (e : K → K → Bool) (dec : (x y : K) → Decides (e x
     rules = sound;
     free = f;
     clear = λ a k u b h s.
-      let m = used-below start a k u h in
-      omega (arith, gap-round (length start) hole a l m, subst (λ x. gap (length start) x hole < gap (length start) a hole) is b);
+        let m = used-below start a k u h in
+        omega (arith, gap-round (length start) hole a l m, subst (λ x. gap (length start) x hole < gap (length start) a hole) is b);
     finds = λ q. refl;
     count = refl;
   }
@@ -99,18 +99,18 @@ module _ {K V : Type 0} (e : K → K → Bool) (dec : (x y : K) → Decides (e x
     closed none = subst (λ m. Rules number m (λ _. ⊥) (at cs)) (sym (s .size)) (record {
       once = s .rules .once;
       reached = λ a x k u h l g p f.
-        elim (cases-eq x hole) [
-          inl b ↦ none a k u h (subst (λ m. gap n (home number n k) m < gap n (home number n k) a) b g)
-        | inr b ↦ s .rules .reached a x k u h l g b f
-        ];
+          elim (cases-eq x hole) [
+            | inl b ↦ none a k u h (subst (λ m. gap n (home number n k) m < gap n (home number n k) a) b g)
+            | inr b ↦ s .rules .reached a x k u h l g b f
+          ];
     })
 
     -- the walk has come round to the hole
     pub round-sound : j ≡ hole → Sound number cs
     round-sound b =
         closed (λ a k u h g.
-          let near : gap n j hole ≡ 0 = ap (λ m. gap n m hole) b ∙ gap-same n hole in
-          s .clear a k u (omega (arith, gap-apart n a hole (below a k u h) (s .low) (off-hole a k u h))) h g)
+        let near : gap n j hole ≡ 0 = ap (λ m. gap n m hole) b ∙ gap-same n hole in
+        s .clear a k u (omega (arith, gap-apart n a hole (below a k u h) (s .low) (off-hole a k u h))) h g)
 
     module _ (going : j ≡ hole → ⊥) where
       -- the row of keys ends
@@ -118,18 +118,18 @@ module _ {K V : Type 0} (e : K → K → Bool) (dec : (x y : K) → Decides (e x
       end-sound r =
           let f : at cs j ≡ Free = step-end number (length cs) hole j (at cs j) r in
           closed (λ a k u h g.
-            let l = below a k u h in
-            elim (cases-lt (gap n j hole) (gap n a hole)) [
-              inl b ↦ s .clear a k u b h g
+          let l = below a k u h in
+          elim (cases-lt (gap n j hole) (gap n a hole)) [
+            | inl b ↦ s .clear a k u b h g
             | inr b ↦ elim (cases-lt (gap n a hole) (gap n j hole)) [
-                inl d ↦ (
+              | inl d ↦ (
                   let o = gap-turned n hole j a (s .low) (s .next) l going (off-hole a k u h) d in
                   s .rules .reached a j k u h (s .next) (gap-over n (home number n k) hole j a (home-low k) (s .low) (s .next) l g o) going f)
               | inr d ↦ (
                   let t : a ≡ j = gap-once-to n hole a j (s .low) l (s .next) (omega arith) in
                   free-not-used (at cs a) k u (ap (at cs) t ∙ f) h)
-              ]
-            ])
+            ]
+          ])
 
       -- the key stays
       pub shift-stay : Stay ≡ step number (length cs) hole j (at cs j) → (ds : List (Cell K V)) → ds ≡ cs → (hole' j' : ℕ) → hole' ≡ hole → j' ≡ after n j → Shift start n ds hole' j'
@@ -142,13 +142,13 @@ module _ {K V : Type 0} (e : K → K → Bool) (dec : (x y : K) → Decides (e x
             rules = s .rules;
             free = s .free;
             clear = λ a k u b h g.
-              let nearer = gap-nearer n j hole (s .next) (s .low) going in
-              elim (cases-lt (gap n j hole) (gap n a hole)) [
-                inl d ↦ s .clear a k u d h g
-              | inr d ↦ (
-                  let t : a ≡ j = gap-once-to n hole a j (s .low) (below a k u h) (s .next) (omega arith) in
-                  step-stay number n hole j (at cs j) r' k u (ap (at cs) (sym t) ∙ h) (subst (λ m. gap n (home number n k) hole < gap n (home number n k) m) t g))
-              ];
+                let nearer = gap-nearer n j hole (s .next) (s .low) going in
+                elim (cases-lt (gap n j hole) (gap n a hole)) [
+                  | inl d ↦ s .clear a k u d h g
+                  | inr d ↦ (
+                      let t : a ≡ j = gap-once-to n hole a j (s .low) (below a k u h) (s .next) (omega arith) in
+                      step-stay number n hole j (at cs j) r' k u (ap (at cs) (sym t) ∙ h) (subst (λ m. gap n (home number n k) hole < gap n (home number n k) m) t g))
+                ];
             finds = s .finds;
             count = s .count;
           } in
@@ -175,8 +175,8 @@ module _ {K V : Type 0} (e : K → K → Bool) (dec : (x y : K) → Decides (e x
         alone : (x : ℕ) (w : V) → (x ≡ hole → ⊥) → at (set cs j Free) x ≡ Used k w → ⊥
         alone x w p h =
             elim (cases-eq x j) [
-              inl b ↦ free-not-used (at (set cs j Free) x) k w (ap (at (set cs j Free)) b ∙ same cs j Free j-in) h
-            | inr b ↦ b (s .rules .once x j k w v (sym (rest cs j Free x b) ∙ h) here)
+              | inl b ↦ free-not-used (at (set cs j Free) x) k w (ap (at (set cs j Free)) b ∙ same cs j Free j-in) h
+              | inr b ↦ b (s .rules .once x j k w v (sym (rest cs j Free x b) ∙ h) here)
             ]
 
         along : (x : ℕ) → x < n → gap n (home number n k) x < gap n (home number n k) hole → (x ≡ hole → ⊥) → (x ≡ j → ⊥) → at (set cs j Free) x ≡ Free → ⊥
@@ -185,24 +185,24 @@ module _ {K V : Type 0} (e : K → K → Bool) (dec : (x y : K) → Decides (e x
         end-rules : Rules number n (λ x. x ≡ j) (at (set (set cs j Free) hole (Used k v)))
         end-rules =
             rules-put number n (at (set cs j Free)) (at (set (set cs j Free) hole (Used k v))) hole (rest (set cs j Free) hole (Used k v))
-              (λ x. (x ≡ hole) ⊎ (x ≡ j)) (λ x. x ≡ j) mid-rules (λ x p q t. elim t [ inl b ↦ p b | inr b ↦ q b ])
-              k v (same (set cs j Free) hole (Used k v) mid-in) alone along
+            (λ x. (x ≡ hole) ⊎ (x ≡ j)) (λ x. x ≡ j) mid-rules (λ x p q t. elim t [ inl b ↦ p b | inr b ↦ q b ])
+            k v (same (set cs j Free) hole (Used k v) mid-in) alone along
 
         -- each key finds what it found
         moved-finds : (q : K) → lookup e (set (set cs j Free) hole (Used k v)) q ≡ lookup e cs q
         moved-finds q =
             elim (cases-bool (e q k)) [
-              inl t ↦ (
-                let p : q ≡ k = dec q k .0 t in
-                ap (lookup e (set (set cs j Free) hole (Used k v))) p
-                ∙ lookup-some e dec (set (set cs j Free) hole (Used k v)) hole k v (end-rules .once) (same (set cs j Free) hole (Used k v) mid-in)
-                ∙ sym (lookup-some e dec cs j k v (s .rules .once) here)
-                ∙ ap (lookup e cs) (sym p))
-            | inr t ↦ (
-                lookup-set e dec (set cs j Free) hole (Used k v) q
+              | inl t ↦ (
+                  let p : q ≡ k = dec q k .0 t in
+                  ap (lookup e (set (set cs j Free) hole (Used k v))) p
+                  ∙ lookup-some e dec (set (set cs j Free) hole (Used k v)) hole k v (end-rules .once) (same (set cs j Free) hole (Used k v) mid-in)
+                  ∙ sym (lookup-some e dec cs j k v (s .rules .once) here)
+                  ∙ ap (lookup e cs) (sym p))
+              | inr t ↦ (
+                  lookup-set e dec (set cs j Free) hole (Used k v) q
                   (λ w g. free-not-used (at (set cs j Free) hole) q w (rest cs j Free hole back ∙ s .free) g)
                   (λ w g. other q t (cc))
-                ∙ lookup-set e dec cs j Free q (λ w g. other q t (cc)) (λ w g. free-not-used Free q w refl g))
+                  ∙ lookup-set e dec cs j Free q (λ w g. other q t (cc)) (λ w g. free-not-used Free q w refl g))
             ]
           where
             other : (q : K) → e q k ≡ false → k ≡ q → ⊥
@@ -219,8 +219,8 @@ module _ {K V : Type 0} (e : K → K → Bool) (dec : (x y : K) → Decides (e x
           rules = end-rules;
           free = rest (set cs j Free) hole (Used k v) j going ∙ same cs j Free j-in;
           clear = λ a q u b h g.
-            let l : a < n = subst (λ m. a < m) moved-size (used-below (set (set cs j Free) hole (Used k v)) a q u h) in
-            omega (arith, gap-round n j a (s .next) l);
+              let l : a < n = subst (λ m. a < m) moved-size (used-below (set (set cs j Free) hole (Used k v)) a q u h) in
+              omega (arith, gap-round n j a (s .next) l);
           finds = λ q. moved-finds q ∙ s .finds q;
           count = taken-moved cs hole j (Used k v) hole-in j-in back (s .free) here ∙ s .count;
         }

@@ -43,8 +43,8 @@ module _ {K V : Type 0} (e : K → K → Bool) (dec : (x y : K) → Decides (e x
     closer : (j : ℕ) → j < length cs → gap (length cs) (home number (length cs) k) j < i + 1 → (gap (length cs) (home number (length cs) k) j < i) ⊎ (j ≡ p)
     closer j l g =
         elim (cases-lt (gap (length cs) (home number (length cs) k) j) i) [
-          inl b ↦ inl b
-        | inr b ↦ inr (gap-once (length cs) (home number (length cs) k) j p (home-below cs k (omega arith)) l (w .low) (omega (arith, w .far more)))
+          | inl b ↦ inl b
+          | inr b ↦ inr (gap-once (length cs) (home number (length cs) k) j p (home-below cs k (omega arith)) l (w .low) (omega (arith, w .far more)))
         ]
 
     step-far : i + 1 < length cs → gap (length cs) (home number (length cs) k) (after (length cs) p) ≡ i + 1
@@ -70,10 +70,10 @@ module _ {K V : Type 0} (e : K → K → Bool) (dec : (x y : K) → Decides (e x
         let n = length cs in
         let h = home number (length cs) k in
         elim (cases-order (gap n h x) i) [
-          inl b ↦ free-not-used (at cs x) k v (ap (at cs) (gap-once n h x p (home-below cs k (omega arith)) l (w .low) (b ∙ sym (w .far more))) ∙ a) u
-        | inr b ↦ elim b [
-            inl d ↦ w .other x v l d u
-          | inr d ↦ sound .reached x p k v u (w .low) (omega (arith, w .far more)) (λ x. x) a
+          | inl b ↦ free-not-used (at cs x) k v (ap (at cs) (gap-once n h x p (home-below cs k (omega arith)) l (w .low) (b ∙ sym (w .far more))) ∙ a) u
+          | inr b ↦ elim b [
+            | inl d ↦ w .other x v l d u
+            | inr d ↦ sound .reached x p k v u (w .low) (omega (arith, w .far more)) (λ x. x) a
           ]
         ]
 

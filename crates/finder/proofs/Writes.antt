@@ -35,13 +35,13 @@ module _ {K V : Type 0} (number : K → ℕ) (n : ℕ) (f f' : ℕ → Cell K V)
       once : (a b : ℕ) (q : K) (u w : V) → f' a ≡ Used q u → f' b ≡ Used q w → a ≡ b
       once a b q u w g h =
           elim (cases-eq a i) [
-            inl p ↦ elim (cases-eq b i) [
-              inl r ↦ p ∙ sym r
-            | inr r ↦ absurd (alone b w r (sym (rest b r) ∙ h ∙ ap (λ x. Used x w) (mine a q u g p)))
+            | inl p ↦ elim (cases-eq b i) [
+              | inl r ↦ p ∙ sym r
+              | inr r ↦ absurd (alone b w r (sym (rest b r) ∙ h ∙ ap (λ x. Used x w) (mine a q u g p)))
             ]
-          | inr p ↦ elim (cases-eq b i) [
-              inl r ↦ absurd (alone a u p (sym (rest a p) ∙ g ∙ ap (λ x. Used x u) (mine b q w h r)))
-            | inr r ↦ rules .once a b q u w (sym (rest a p) ∙ g) (sym (rest b r) ∙ h)
+            | inr p ↦ elim (cases-eq b i) [
+              | inl r ↦ absurd (alone a u p (sym (rest a p) ∙ g ∙ ap (λ x. Used x u) (mine b q w h r)))
+              | inr r ↦ rules .once a b q u w (sym (rest a p) ∙ g) (sym (rest b r) ∙ h)
             ]
           ]
 
@@ -49,11 +49,11 @@ module _ {K V : Type 0} (number : K → ℕ) (n : ℕ) (f f' : ℕ → Cell K V)
       reached a j q u g l s t h =
           let p : j ≡ i → ⊥ = λ x. free-not-used (f' j) k v h (ap f' x ∙ here) in
           elim (cases-eq a i) [
-            inl r ↦ (
-              let m = mine a q u g r in
-              let y : gap n (home number n k) j < gap n (home number n k) i = subst (λ x. gap n (home number n x) j < gap n (home number n x) i) m (subst (λ x. gap n (home number n q) j < gap n (home number n q) x) r s) in
-              way j l y p t (sym (rest j p) ∙ h))
-          | inr r ↦ rules .reached a j q u (sym (rest a r) ∙ g) l s (fewer j p t) (sym (rest j p) ∙ h)
+            | inl r ↦ (
+                let m = mine a q u g r in
+                let y : gap n (home number n k) j < gap n (home number n k) i = subst (λ x. gap n (home number n x) j < gap n (home number n x) i) m (subst (λ x. gap n (home number n q) j < gap n (home number n q) x) r s) in
+                way j l y p t (sym (rest j p) ∙ h))
+            | inr r ↦ rules .reached a j q u (sym (rest a r) ∙ g) l s (fewer j p t) (sym (rest j p) ∙ h)
           ]
 
   -- a place is set free and named, as one that a way may lead over
@@ -77,13 +77,13 @@ module _ {K V : Type 0} (e : K → K → Bool) (dec : (x y : K) → Decides (e x
   sound-put k v alone way =
       subst (λ m. Rules number m (λ _. ⊥) (at (set cs i (Used k v)))) (sym (length-set cs i (Used k v)))
       (rules-put number (length cs) (at cs) (at (set cs i (Used k v))) i (λ j h. getD-set-other cs i j (Used k v) Free h)
-        (λ _. ⊥) (λ _. ⊥) sound (λ j p q r. r) k v (getD-set-same cs i (Used k v) Free within) alone (λ j l s p q. way j l s))
+      (λ _. ⊥) (λ _. ⊥) sound (λ j p q r. r) k v (getD-set-same cs i (Used k v) Free within) alone (λ j l s p q. way j l s))
 
   pub sound-hole : Sound-but number i (set cs i Free)
   sound-hole =
       subst (λ m. Rules number m (λ j. j ≡ i) (at (set cs i Free))) (sym (length-set cs i Free))
       (rules-hole number (length cs) (at cs) (at (set cs i Free)) i (λ j h. getD-set-other cs i j Free Free h)
-        (λ _. ⊥) (λ j. j ≡ i) sound (λ j t x. x) (getD-set-same cs i Free Free within) refl)
+      (λ _. ⊥) (λ j. j ≡ i) sound (λ j t x. x) (getD-set-same cs i Free Free within) refl)
 
   apart : (q k : K) → e q k ≡ false → k ≡ q → ⊥
   apart q k h p = let t = dec q k .1 (sym p) in let z : _≡_ {A = ℕ} 0 1 = cc in omega arith
@@ -92,31 +92,31 @@ module _ {K V : Type 0} (e : K → K → Bool) (dec : (x y : K) → Decides (e x
   found-put : (k : K) (v : V) → Sound number (set cs i (Used k v)) → ((q : K) (w : V) → (k ≡ q → ⊥) → at cs i ≡ Used q w → ⊥) → (q : K) → lookup e (set cs i (Used k v)) q ≡ update e (lookup e cs) k (Some v) q
   found-put k v after clear q =
       elim (cases-bool (e q k)) [
-        inl t ↦ (
-          let p : q ≡ k = dec q k .0 t in
-          ap (lookup e (set cs i (Used k v))) p ∙ lookup-some e dec (set cs i (Used k v)) i k v (after .once) (getD-set-same cs i (Used k v) Free within) ∙ sym (cond-true (e q k) (Some v) (lookup e cs q) t))
-      | inr t ↦ (
-          lookup-set e dec cs i (Used k v) q (λ w h. clear q w (apart q k t) h) (λ w h. apart q k t (cc))
-          ∙ sym (cond-false (e q k) (Some v) (lookup e cs q) t))
+        | inl t ↦ (
+            let p : q ≡ k = dec q k .0 t in
+            ap (lookup e (set cs i (Used k v))) p ∙ lookup-some e dec (set cs i (Used k v)) i k v (after .once) (getD-set-same cs i (Used k v) Free within) ∙ sym (cond-true (e q k) (Some v) (lookup e cs q) t))
+        | inr t ↦ (
+            lookup-set e dec cs i (Used k v) q (λ w h. clear q w (apart q k t) h) (λ w h. apart q k t (cc))
+            ∙ sym (cond-false (e q k) (Some v) (lookup e cs q) t))
       ]
 
   -- and after k's cell is set free
   found-free : (k : K) (v : V) → at cs i ≡ Used k v → (q : K) → lookup e (set cs i Free) q ≡ update e (lookup e cs) k None q
   found-free k v here q =
       elim (cases-bool (e q k)) [
-        inl t ↦ (
-          let p : q ≡ k = dec q k .0 t in
-          ap (lookup e (set cs i Free)) p ∙ lookup-none e dec (set cs i Free) k nowhere ∙ sym (cond-true (e q k) None (lookup e cs q) t))
-      | inr t ↦ (
-          lookup-set e dec cs i Free q (λ w h. apart q k t (cc)) (λ w h. free-not-used Free q w refl h)
-          ∙ sym (cond-false (e q k) None (lookup e cs q) t))
+        | inl t ↦ (
+            let p : q ≡ k = dec q k .0 t in
+            ap (lookup e (set cs i Free)) p ∙ lookup-none e dec (set cs i Free) k nowhere ∙ sym (cond-true (e q k) None (lookup e cs q) t))
+        | inr t ↦ (
+            lookup-set e dec cs i Free q (λ w h. apart q k t (cc)) (λ w h. free-not-used Free q w refl h)
+            ∙ sym (cond-false (e q k) None (lookup e cs q) t))
       ]
     where
       nowhere : (j : ℕ) (w : V) → at (set cs i Free) j ≡ Used k w → ⊥
       nowhere j w h =
           elim (cases-eq j i) [
-            inl p ↦ free-not-used (at (set cs i Free) j) k w (ap (at (set cs i Free)) p ∙ getD-set-same cs i Free Free within) h
-          | inr p ↦ p (sound .once j i k w v (sym (getD-set-other cs i j Free Free p) ∙ h) here)
+            | inl p ↦ free-not-used (at (set cs i Free) j) k w (ap (at (set cs i Free)) p ∙ getD-set-same cs i Free Free within) h
+            | inr p ↦ p (sound .once j i k w v (sym (getD-set-other cs i j Free Free p) ∙ h) here)
           ]
 
   taken-free : (k : K) (v : V) → at cs i ≡ Used k v → taken (set cs i Free) + 1 ≡ taken cs
@@ -137,11 +137,12 @@ module _ {K V : Type 0} (e : K → K → Bool) (dec : (x y : K) → Decides (e x
   pub here-inserted : (k : K) (v w : V) (old : Option V) → at cs i ≡ Used k w → lookup e cs k ≡ Some w → old ≡ held (at cs i) → Inserted e cs k v (Ok old) (set cs i (Used k v))
   here-inserted k v w old h s o =
       let is : old ≡ Some w = o ∙ ap held h in
-      let counted : found old ≡ 1 = ap found is in
-      ( is ∙ sym s
-      , found-put k v (here-sound k v w h) (λ q u p g. p (cc))
-      , omega (arith, taken-set cs i (Used k v) within, ap one h, counted)
-      , λ a. let z : _≡_ {A = ℕ} 0 1 = cc in absurd (omega arith))
+      let counted : found old ≡ 1 = ap found is in (
+        is ∙ sym s,
+        found-put k v (here-sound k v w h) (λ q u p g. p (cc)),
+        omega (arith, taken-set cs i (Used k v) within, ap one h, counted),
+        λ a. let z : _≡_ {A = ℕ} 0 1 = cc in absurd (omega arith),
+      )
 
   pub open-sound : (k : K) (v : V) → Sought e number cs k (Open i) → Sound number (set cs i (Used k v))
   open-sound k v o =
@@ -150,8 +151,9 @@ module _ {K V : Type 0} (e : K → K → Bool) (dec : (x y : K) → Decides (e x
   pub open-inserted : (k : K) (v : V) → Sought e number cs k (Open i) → Inserted e cs k v (Ok None) (set cs i (Used k v))
   open-inserted k v o =
       let more = taken-set cs i (Used k v) within in
-      let none : one (at cs i) ≡ 0 = ap one (o .1) in
-      ( sym (o .2)
-      , found-put k v (open-sound k v o) (λ q u p g. free-not-used (at cs i) q u (o .1) g)
-      , omega (arith, more, none)
-      , λ _. omega (arith, more, none, taken-most (set cs i (Used k v)), length-set cs i (Used k v)))
+      let none : one (at cs i) ≡ 0 = ap one (o .1) in (
+        sym (o .2),
+        found-put k v (open-sound k v o) (λ q u p g. free-not-used (at cs i) q u (o .1) g),
+        omega (arith, more, none),
+        λ _. omega (arith, more, none, taken-most (set cs i (Used k v)), length-set cs i (Used k v)),
+      )

@@ -30,13 +30,7 @@ fn look<K: Key, V: Copy>(cells: &[Cell<K, V>], p: usize, key: &K) -> View
     let cell = cells[p];
     match cell {
         Cell::Free => View::Free,
-        Cell::Used(q, _v) => {
-            if q.same(key) {
-                View::Mine
-            } else {
-                View::Other
-            }
-        }
+        Cell::Used(q, _v) => { if q.same(key) { View::Mine } else { View::Other } }
     }
 }
 

@@ -21,5 +21,5 @@ returns-in-Here g c =
     let d = c .draw-up .ensures in
     record {
       sound = d .sound;
-      removed = here-removed (g .K·Key .equal) (g .K·Key·met .decides) (g .K·Key .number) (c .args .cells .now) (c .in-Here .p) (s .0) (c .pre) (c .args .key .now) (s .1 .0) (c .value-at-old .result) _ (s .1 .1) (s .1 .2) (c .value-at-old .ensures) (d .finds) (d .taken);
+      removed = here-removed (g .K·Key .equal) (g .K·Key·met .decides) (g .K·Key .number) (c .args .cells .now) (c .in-Here .p) (s .0) (c .pre) (c .args .key .now) (s .1 .0) (c .value-at-old .result) (c .draw-up .last .cells) (s .1 .1) (s .1 .2) (c .value-at-old .ensures) (d .finds) (d .taken);
     }

@@ -14,15 +14,15 @@ returns-in-End g c =
 pub loop-j-less : need.loop-j-less
 loop-j-less g c =
     elim (c .match-step-at .came) [
-      in-Stay w ↦ left-stay (g .K·Key .equal) (g .K·Key·met .decides) (g .K·Key .number) _ _ _ _ _ (c .loop-j .inv) (c .loop-j-test .taken) _ (w .cells-is) _ _ (w .hole-is) (c .next-place-j-in-loop-j .ensures)
-    | in-Move w ↦ left-move (g .K·Key .equal) (g .K·Key·met .decides) (g .K·Key .number) _ _ _ _ _ (c .loop-j .inv) (c .loop-j-test .taken) (w .in-Move .ensures tt) _ (w .index-cells-j .is) _ (w .cells-is) _ _ (w .hole-is) (c .next-place-j-in-loop-j .ensures)
+      | in-Stay w ↦ left-stay (g .K·Key .equal) (g .K·Key·met .decides) (g .K·Key .number) _ _ _ _ _ (c .loop-j .inv) (c .loop-j-test .taken) _ (w .cells-is) _ _ (w .hole-is) (c .next-place-j-in-loop-j .ensures)
+      | in-Move w ↦ left-move (g .K·Key .equal) (g .K·Key·met .decides) (g .K·Key .number) _ _ _ _ _ (c .loop-j .inv) (c .loop-j-test .taken) (w .in-Move .ensures tt) _ (w .index-cells-j .is) _ (w .cells-is) _ _ (w .hole-is) (c .next-place-j-in-loop-j .ensures)
     ]
 
 pub loop-j-again : need.loop-j-again
 loop-j-again g c =
     elim (c .match-step-at .came) [
-      in-Stay w ↦ shift-stay (g .K·Key .equal) (g .K·Key·met .decides) (g .K·Key .number) _ _ _ _ _ (c .loop-j .inv) (c .loop-j-test .taken) (w .in-Stay .ensures tt) _ (w .cells-is) _ _ (w .hole-is) (c .next-place-j-in-loop-j .ensures)
-    | in-Move w ↦ shift-move (g .K·Key .equal) (g .K·Key·met .decides) (g .K·Key .number) _ _ _ _ _ (c .loop-j .inv) (c .loop-j-test .taken) (w .in-Move .ensures tt) _ (w .index-cells-j .is) _ (w .cells-is) _ _ (w .hole-is) (c .next-place-j-in-loop-j .ensures)
+      | in-Stay w ↦ shift-stay (g .K·Key .equal) (g .K·Key·met .decides) (g .K·Key .number) _ _ _ _ _ (c .loop-j .inv) (c .loop-j-test .taken) (w .in-Stay .ensures tt) _ (w .cells-is) _ _ (w .hole-is) (c .next-place-j-in-loop-j .ensures)
+      | in-Move w ↦ shift-move (g .K·Key .equal) (g .K·Key·met .decides) (g .K·Key .number) _ _ _ _ _ (c .loop-j .inv) (c .loop-j-test .taken) (w .in-Move .ensures tt) _ (w .index-cells-j .is) _ (w .cells-is) _ _ (w .hole-is) (c .next-place-j-in-loop-j .ensures)
     ]
 
 pub returns : need.returns
