@@ -1,0 +1,3 @@
+pub mod Grows
+pub mod Written
+pub mod ReadBack
