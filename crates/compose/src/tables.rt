@@ -5,15 +5,15 @@ use codes::MarksCoded;
 use codes::OrderKindCoded;
 use codes::SideCoded;
 use codes::TimeInForceCoded;
+use names::flag_word;
+use names::kind_word;
+use names::marks_word;
+use names::side_word;
+use names::term_word;
 use types::Marks;
 use types::OrderKind;
 use types::Side;
 use types::TimeInForce;
-use words::flag_word;
-use words::kind_word;
-use words::marks_word;
-use words::side_word;
-use words::term_word;
 
 /// What has a code and a word.
 pub trait Worded: Coded {

@@ -2,7 +2,7 @@
 ghost use mathlib.Core.Path.{_≡_};
 ghost use Prim.Native.Nat.{_+_, _≤_};
 ghost use lib.ListN.{length};
-ghost use Rattle.wire.specs.Frames.{kind-of, layout, six, kind-in, trader-from, side-of, quote-from, enter-from, call-at};
+ghost use Rattle.wire.specs.Frames.{kind-of, layout, six, trader-from, side-of, quote-from, enter-from, call-at};
 ghost use Rattle.wire.specs.Layouts.{fields};
 ghost use Rattle.wire.specs.Reading.{announced};
 ghost use mathlib.Core.List.{[]};
@@ -86,22 +86,6 @@ impl CallKind {
             CallKind::Quote | CallKind::Resume => 10,
             CallKind::Halt | CallKind::Close => 2,
             CallKind::Enrol => 11,
-        }
-    }
-}
-
-impl CallFrame {
-    pub fn kind(&self) -> CallKind
-        ensures { λ r. ⌜ r ≡ kind-in (now (self .entry)) ⌝ }
-    {
-        match *self {
-            CallFrame::Enter(_) => CallKind::Enter,
-            CallFrame::Cancel(_) => CallKind::Cancel,
-            CallFrame::Quote(_) => CallKind::Quote,
-            CallFrame::Halt => CallKind::Halt,
-            CallFrame::Resume(_) => CallKind::Resume,
-            CallFrame::Close => CallKind::Close,
-            CallFrame::Enrol(_) => CallKind::Enrol,
         }
     }
 }

@@ -24,7 +24,11 @@ use words::DollarsDisplay;
 
 /// Number, layer and place of a refusal, as one number each.
 fn told(refusal: Refusal) -> (u8, u8, u32) {
-    (refusal.reason.number(), refusal.layer.number(), refusal.place)
+    (
+        refusal.reason.number(),
+        refusal.layer.number(),
+        refusal.place,
+    )
 }
 
 fn first_refusal(bytes: &[u8]) -> Option<(u8, u8, u32)> {
@@ -137,7 +141,10 @@ fn report_reads_back() -> Result<(), Fail> {
     let bytes = report_bytes(report);
     let mut frames = FrameReader::new(&bytes);
     match frames.next_report() {
-        Ok(Some(read)) => check_eq((read.order, read.other, read.price, read.volume, read.mark), (7, 9, 4006, 500, 6)),
+        Ok(Some(read)) => check_eq(
+            (read.order, read.other, read.price, read.volume, read.mark),
+            (7, 9, 4006, 500, 6),
+        ),
         _ => Err(Fail::new("a report reads back")),
     }
 }
@@ -154,8 +161,21 @@ fn blank_is_no_report() -> Result<(), Fail> {
 
 #[test]
 fn cancelled_says_why() -> Result<(), Fail> {
-    let report = Report::cancelled(OrderNumber { number: 3 }, Volume { shares: 200 }, CancelReason::Close);
-    check_eq((report.order, report.other, report.price, report.volume, report.mark), (3, 0, 0, 200, 5))
+    let report = Report::cancelled(
+        OrderNumber { number: 3 },
+        Volume { shares: 200 },
+        CancelReason::Close,
+    );
+    check_eq(
+        (
+            report.order,
+            report.other,
+            report.price,
+            report.volume,
+            report.mark,
+        ),
+        (3, 0, 0, 200, 5),
+    )
 }
 
 #[test]

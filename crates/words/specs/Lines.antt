@@ -10,7 +10,8 @@ use Rattle.types.specs.declared.calls.Call.the-variants as call
 use Rattle.types.specs.declared.orders.Entry.{Entry}
 use Rattle.types.specs.declared.orders.TraderId.{TraderId}
 use Rattle.codes.specs.Codes.{instruction-code}
-use Rattle.words.specs.Words.{dollars, side-dollars, side-word, kind-word, term-word, mark-words, flag-word}
+use Rattle.names.specs.Names.{side-word, kind-word, term-word, mark-words, flag-word}
+use Rattle.words.specs.Words.{dollars, side-dollars}
 
 -- the word trader and the letters, each as a character
 unfoldable pub trader-words : TraderId → List ℕ

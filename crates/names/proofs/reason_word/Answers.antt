@@ -1,6 +1,6 @@
 use mathlib.Core.Path.{sym, ap}
-use Rattle.words.specs.Words.{reason-word}
-use Rattle.words.proofs.names.reason_word.Needs as need
+use Rattle.names.specs.Names.{reason-word}
+use Rattle.names.proofs.reason_word.Needs as need
 
 pub returns-in-UnknownTrader : need.returns-in-UnknownTrader
 returns-in-UnknownTrader c = ap reason-word (sym (c .in-UnknownTrader .is))

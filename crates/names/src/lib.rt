@@ -1,6 +1,6 @@
-//! The words for sides, kinds, terms, marks and reasons.
+//! The words for sides, kinds, terms, marks, flags and the reasons of refusals.
 ghost use mathlib.Core.Path.{_≡_};
-ghost use Rattle.words.specs.Words.{side-word, kind-word, term-word, mark-words, flag-word, reason-word};
+ghost use Rattle.names.specs.Names.{side-word, kind-word, term-word, mark-words, flag-word, reason-word};
 use faults::Reason;
 use types::Marks;
 use types::OrderKind;

@@ -1,7 +1,7 @@
 use mathlib.Core.Path.{_≡_, refl, sym, ap, _∙_}
 use mathlib.Core.Bool.{Bool, true, false}
-use Rattle.words.specs.Words.{mark-words}
-use Rattle.words.proofs.names.marks_word.Needs as need
+use Rattle.names.specs.Names.{mark-words}
+use Rattle.names.proofs.marks_word.Needs as need
 
 -- equal marks have equal words
 named : (p a j : Bool) {q b k : Bool} → q ≡ p → b ≡ a → k ≡ j → mark-words p a j ≡ mark-words q b k
