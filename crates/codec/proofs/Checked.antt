@@ -9,14 +9,13 @@ use Rattle.std.specs.declared.option.Option.the-variants.{Some, None}
 use Rattle.std.specs.declared.result.Result.the-variants.{Ok, Err}
 use Rattle.types.specs.declared.money.Price.{Price}
 use Rattle.types.specs.declared.quotes.Quote.{Quote}
-use Rattle.types.specs.Reports.{price-or-zero}
+use Rattle.types.specs.Reports.{price-or-zero, price-unless-zero}
 use Rattle.faults.specs.declared.layers.CallField.{CallField}
 use Rattle.faults.specs.declared.layers.CallField.the-variants as at
 use Rattle.faults.specs.declared.layers.FieldFault.{FieldFault}
 use Rattle.faults.specs.declared.layers.FieldFault.the-variants as fault
 use Rattle.checks.specs.Values.{on-tick}
 use Rattle.checks.specs.Checks.{Checked, test, then, side-check, quote-check}
-use Rattle.wire.specs.Frames.{side-of}
 use Rattle.wire.specs.Trips.{Present}
 
 -- both of two checks passed
@@ -32,10 +31,10 @@ passed : (t : Bool) (f : FieldFault) → test t f ≡ Ok tt → t ≡ true
 passed true f e = refl
 passed false f e = absurd (let z : _≡_ {A = ℕ} 0 1 = cc in omega arith)
 
-some-price : (p : Price) → on-tick (p .quarters) ≡ true → side-of (p .quarters) ≡ Some p
+some-price : (p : Price) → on-tick (p .quarters) ≡ true → price-unless-zero (p .quarters) ≡ Some p
 some-price p e = grind (arith, tells)
 
-present : (s : Option Price) (f : CallField) → side-check s f ≡ Ok tt → side-of (price-or-zero s) ≡ s
+present : (s : Option Price) (f : CallField) → side-check s f ≡ Ok tt → price-unless-zero (price-or-zero s) ≡ s
 present None f e = refl
 present (Some p) f e = some-price p (passed (on-tick (p .quarters)) (fault.Price f) e)
 

@@ -6,6 +6,7 @@ use lib.Dec.{eqb}
 use Rattle.std.specs.declared.option.Option.{Option}
 use Rattle.std.specs.declared.option.Option.the-variants.{Some, None}
 use Rattle.types.specs.declared.money.Price.{Price}
+use Rattle.types.specs.Reports.{price-unless-zero}
 use Rattle.types.specs.declared.orders.Order.{Order}
 use Rattle.types.specs.declared.orders.RestingOrder.{RestingOrder}
 use Rattle.types.specs.declared.orders.Side.{Side}
@@ -82,10 +83,6 @@ left-by-reports n log = entered n log - lost n log
 unfoldable pub limit-in-force : List Report → Order → Price
 limit-in-force log o = o .entry .limit
 
--- A side of a quote that is reported as 0 is missing.
-abbrev pub side-reported : ℕ → Option Price
-side-reported p = cond (eqb p 0) None (Some (record { quarters = p }))
-
 -- A QUOTE report changes the quote in force, and no other report does.
 abbrev pub quote-as : ReportKind → Report → Quote → Quote
 quote-as kind.Blank r q = q
@@ -93,7 +90,7 @@ quote-as kind.Accepted r q = q
 quote-as kind.Trade r q = q
 quote-as kind.Cancelled r q = q
 quote-as kind.Decremented r q = q
-quote-as kind.Quote r q = record { bid = side-reported (r .price); offer = side-reported (r .volume) }
+quote-as kind.Quote r q = record { bid = price-unless-zero (r .price); offer = price-unless-zero (r .volume) }
 quote-as kind.Halted r q = q
 quote-as kind.Closed r q = q
 

@@ -1,6 +1,7 @@
 -- What each report says. A field that a report does not name is 0.
 use Prim.Native.Nat.{ℕ, _+_}
 use mathlib.Core.Bool.{Bool, cond}
+use lib.Dec.{eqb}
 use Rattle.std.specs.declared.option.Option.{Option}
 use Rattle.std.specs.declared.option.Option.the-variants.{Some, None}
 use Rattle.types.specs.declared.money.Price.{Price}
@@ -30,6 +31,10 @@ cancel-mark Close = 5
 abbrev pub price-or-zero : Option Price → ℕ
 price-or-zero None = 0
 price-or-zero (Some p) = p .quarters
+
+-- and the other way round
+abbrev pub price-unless-zero : ℕ → Option Price
+price-unless-zero n = cond (eqb n 0) None (Some (record { quarters = n }))
 
 -- a place of an event sheet that is not in use
 abbrev pub blank : Report

@@ -1,6 +1,6 @@
 //! What a book reports.
 ghost use mathlib.Core.Path.{_≡_};
-ghost use Rattle.types.specs.Reports.{cancel-mark, price-or-zero, blank, accepted, trade, cancelled, decremented, quoted, halted, closed};
+ghost use Rattle.types.specs.Reports.{cancel-mark, blank, accepted, trade, cancelled, decremented, quoted, halted, closed};
 use crate::money::Price;
 use crate::money::Volume;
 use crate::orders::OrderNumber;
@@ -54,16 +54,6 @@ pub struct Report {
     pub price: u32,
     pub volume: u32,
     pub mark: u8,
-}
-
-/// A missing side of a quote is reported as 0.
-fn quarters_or_zero(side: Option<Price>) -> u32
-    ensures { λ r. ⌜ r ≡ price-or-zero side ⌝ }
-{
-    match side {
-        Some(price) => price.quarters,
-        None => 0,
-    }
 }
 
 impl Report {
@@ -150,8 +140,8 @@ impl Report {
             kind: ReportKind::Quote,
             order: 0,
             other: 0,
-            price: quarters_or_zero(quote.bid),
-            volume: quarters_or_zero(quote.offer),
+            price: Price::or_zero(quote.bid),
+            volume: Price::or_zero(quote.offer),
             mark: resumed as u8,
         }
     }

@@ -13,14 +13,14 @@ use Rattle.std.specs.declared.result.Result.the-variants.{Ok, Err}
 use Rattle.types.specs.declared.orders.TraderId.{TraderId}
 use Rattle.types.specs.declared.money.Price.{Price}
 use Rattle.types.specs.declared.quotes.Quote.{Quote}
-use Rattle.types.specs.Reports.{price-or-zero}
+use Rattle.types.specs.Reports.{price-or-zero, price-unless-zero}
 use Rattle.wire.specs.declared.frames.CallKind.{CallKind}
 use Rattle.wire.specs.declared.frames.CallKind.the-variants as kind
 use Rattle.wire.specs.declared.frames.CallFrame.{CallFrame}
 use Rattle.wire.specs.declared.frames.CallFrame.the-variants as frame
 use Rattle.wire.specs.Layouts.{Width, fields, Fit, Bytes, be16, be32}
 use Rattle.wire.specs.Reading.{announced, framed, Form, Read, read}
-use Rattle.wire.specs.Frames.{kind-code, kind-of, layout, kind-in, numbers, letters, sides, side-of, quote-from, call-from, call-at, call-form, call-bytes, read-call}
+use Rattle.wire.specs.Frames.{kind-code, kind-of, layout, kind-in, numbers, letters, sides, quote-from, call-from, call-at, call-form, call-bytes, read-call}
 use Rattle.wire.specs.Trips.{Present, Sound}
 use Rattle.wire.proofs.Trips.{Stands, stands, framed-reads, Was, was-read, stood}
 
@@ -75,7 +75,7 @@ six (a ∷ b ∷ c ∷ d ∷ f ∷ g ∷ h ∷ l) e = absurd (omega arith)
 
 quote-again : (q : Quote) → Present q → quote-from (sides q) ≡ q
 quote-again q p =
-    ap (λ (x : Option Price). record { bid = x; offer = side-of (price-or-zero (q .offer)) }) (p .0) ∙ ap (λ (y : Option Price). record { bid = q .bid; offer = y }) (p .1)
+    ap (λ (x : Option Price). record { bid = x; offer = price-unless-zero (price-or-zero (q .offer)) }) (p .0) ∙ ap (λ (y : Option Price). record { bid = q .bid; offer = y }) (p .1)
 
 -- What the numbers of a call say is the call.
 again : (f : CallFrame) → Sound f → call-from (kind-in f) (numbers f) ≡ f
@@ -99,7 +99,7 @@ again frame.Close s = refl
 again (frame.Enrol e) s =
     ap (λ (l : List ℕ). frame.Enrol (record { trader = record { letters = l }; broker = e .broker; «latency_sensitive» = e .«latency_sensitive» })) (six (e .trader .letters) s)
 
-side-back : (n : ℕ) → price-or-zero (side-of n) ≡ n
+side-back : (n : ℕ) → price-or-zero (price-unless-zero n) ≡ n
 side-back n = go (eqb n 0) refl
   where
     go : (t : Bool) → eqb n 0 ≡ t → price-or-zero (cond t None (Some (record { quarters = n }))) ≡ n

@@ -6,10 +6,9 @@ use lib.Dec.{eqb}
 use lib.ListN.{getD}
 use Rattle.std.specs.declared.option.Option.{Option}
 use Rattle.std.specs.declared.option.Option.the-variants.{Some, None}
-use Rattle.types.specs.declared.money.Price.{Price}
 use Rattle.types.specs.declared.orders.TraderId.{TraderId}
 use Rattle.types.specs.declared.quotes.Quote.{Quote}
-use Rattle.types.specs.Reports.{price-or-zero}
+use Rattle.types.specs.Reports.{price-or-zero, price-unless-zero}
 use Rattle.wire.specs.declared.frames.CallKind.{CallKind}
 use Rattle.wire.specs.declared.frames.CallKind.the-variants as kind
 use Rattle.wire.specs.declared.frames.EnterFrame.{EnterFrame}
@@ -92,12 +91,8 @@ call-bytes f = framed (kind-code (kind-in f)) (layout (kind-in f)) (numbers f)
 abbrev pub trader-from : List ℕ → TraderId
 trader-from ns = record { letters = getD ns 0 0 ∷ getD ns 1 0 ∷ getD ns 2 0 ∷ getD ns 3 0 ∷ getD ns 4 0 ∷ getD ns 5 0 ∷ [] }
 
--- a side of a quote is missing where its number is 0
-abbrev pub side-of : ℕ → Option Price
-side-of n = cond (eqb n 0) None (Some (record { quarters = n }))
-
 abbrev pub quote-from : List ℕ → Quote
-quote-from ns = record { bid = side-of (getD ns 0 0); offer = side-of (getD ns 1 0) }
+quote-from ns = record { bid = price-unless-zero (getD ns 0 0); offer = price-unless-zero (getD ns 1 0) }
 
 abbrev pub enter-from : List ℕ → EnterFrame
 enter-from ns = record {

@@ -13,9 +13,9 @@ use Rattle.wire.specs.declared.frames.CallFrame.{CallFrame}
 use Rattle.wire.specs.declared.frames.CallFrame.the-variants as frame
 use Rattle.wire.specs.Layouts.{Fit, Bytes}
 use Rattle.wire.specs.Reading.{Read}
-use Rattle.wire.specs.Frames.{kind-in, layout, numbers, side-of, call-bytes, read-call}
+use Rattle.wire.specs.Frames.{kind-in, layout, numbers, call-bytes, read-call}
 use Rattle.wire.specs.Reports.{report-layout, report-numbers, report-bytes, read-report}
-use Rattle.types.specs.Reports.{price-or-zero}
+use Rattle.types.specs.Reports.{price-or-zero, price-unless-zero}
 
 -- a trader has six letters
 abbrev pub Six : TraderId → Type 0
@@ -23,7 +23,7 @@ Six t = length (t .letters) ≡ 6
 
 -- a side of a quote that is present is not 0
 abbrev pub Present : Quote → Type 0
-Present q = (side-of (price-or-zero (q .bid)) ≡ q .bid) × (side-of (price-or-zero (q .offer)) ≡ q .offer)
+Present q = (price-unless-zero (price-or-zero (q .bid)) ≡ q .bid) × (price-unless-zero (price-or-zero (q .offer)) ≡ q .offer)
 
 -- the parts of a call that its numbers do not show whole
 abbrev pub Sound : CallFrame → Type 0

@@ -2,7 +2,7 @@
 ghost use mathlib.Core.Path.{_≡_};
 ghost use Prim.Native.Nat.{_+_, _≤_};
 ghost use lib.ListN.{length};
-ghost use Rattle.wire.specs.Frames.{kind-of, layout, six, trader-from, side-of, quote-from, enter-from, call-at};
+ghost use Rattle.wire.specs.Frames.{kind-of, layout, six, trader-from, quote-from, enter-from, call-at};
 ghost use Rattle.wire.specs.Layouts.{fields};
 ghost use Rattle.wire.specs.Reading.{announced};
 ghost use mathlib.Core.List.{[]};
@@ -99,24 +99,13 @@ fn trader_in(b: &[u8]) -> TraderId
     }
 }
 
-/// A side of a quote, which is missing where its number is 0.
-fn quote_side(quarters: u32) -> Option<Price>
-    ensures { λ r. ⌜ r ≡ side-of quarters ⌝ }
-{
-    if quarters == 0 {
-        None
-    } else {
-        Some(Price { quarters })
-    }
-}
-
 fn quote_in(b: &[u8]) -> Quote
     requires { ⌜ 12 ≤ length (now b) ⌝ }
     ensures { λ r. ⌜ r ≡ quote-from (fields (layout CallKind.Quote) (now (b .entry)) 4) ⌝ }
 {
     Quote {
-        bid: quote_side(word(b, 4)),
-        offer: quote_side(word(b, 8)),
+        bid: Price::unless_zero(word(b, 4)),
+        offer: Price::unless_zero(word(b, 8)),
     }
 }
 

@@ -4,7 +4,6 @@ ghost use mathlib.Core.Bool.{cond};
 ghost use mathlib.Core.List.{_++_};
 ghost use Rattle.std.specs.Of.Vec.{vec-items};
 ghost use Rattle.std.specs.Results.{isOk};
-ghost use Rattle.types.specs.Reports.{price-or-zero};
 ghost use Rattle.wire.specs.declared.frames.CallFrame.the-variants as frame;
 ghost use Rattle.wire.specs.Frames.{sides, call-bytes, framed-quote};
 ghost use Rattle.wire.specs.Trips.{Call-trips, Report-trips};
@@ -73,21 +72,11 @@ fn cancel_bytes(cancellation: Cancellation) -> [u8; 14]
     [0, 12, 1, 2, s, t, u, v, w, x, a, b, c, d]
 }
 
-/// A missing side of a quote is written as 0.
-fn side_quarters(side: Option<Price>) -> u32
-    ensures { λ r. ⌜ r ≡ price-or-zero side ⌝ }
-{
-    match side {
-        Some(price) => price.quarters,
-        None => 0,
-    }
-}
-
 fn quote_bytes(code: u8, quote: Quote) -> [u8; 12]
     ensures { λ r. ⌜ r ≡ framed-quote code quote ⌝ }
 {
-    let [a, b, c, d] = side_quarters(quote.bid).to_be_bytes();
-    let [e, f, g, h] = side_quarters(quote.offer).to_be_bytes();
+    let [a, b, c, d] = Price::or_zero(quote.bid).to_be_bytes();
+    let [e, f, g, h] = Price::or_zero(quote.offer).to_be_bytes();
     [0, 10, 1, code, a, b, c, d, e, f, g, h]
 }
 
