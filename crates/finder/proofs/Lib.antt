@@ -1,8 +1,8 @@
-pub mod Rings
-pub mod Lookups
-pub mod Counts
-pub mod Walks
-pub mod Writes
-pub mod Shifts
-pub mod Letters
+mod Rings
+mod Lookups
+mod Counts
+mod Walks
+mod Writes
+mod Shifts
+mod Letters
 pub mod Props

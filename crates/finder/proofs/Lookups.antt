@@ -8,8 +8,7 @@ use lib.ListN.{length, getD, set}
 use Rattle.std.specs.Orderings.{Decides}
 use Rattle.std.specs.declared.option.Option.the-variants.{Some, None}
 use Rattle.std.proofs.shelf.Tests.{cond-true, cond-false, cases-lt}
-use Rattle.std.proofs.shelf.Ways.{same-from-decides}
-use Rattle.std.proofs.shelf.Lists.{getD-read, getD-past}
+use Rattle.std.proofs.shelf.Lists.{getD-past}
 use Rattle.finder.specs.declared.cells.Cell.{Cell}
 use Rattle.finder.specs.declared.cells.Cell.the-variants.{Free, Used}
 use Rattle.finder.specs.declared.search.View.the-variants as seen
@@ -87,9 +86,3 @@ module _ {K V : Type 0} (e : K → K → Bool) (dec : (x y : K) → Decides (e x
           let p : q ≡ k = cc in
           let t : e q k ≡ true = dec q k .1 p in
           let z : _≡_ {A = ℕ} 0 1 = cc (h ∙ cond-true (e q k) seen.Mine seen.Other t) in omega arith
-
-  -- what is read at a place that is used
-  pub look-used : (cs : List (Cell K V)) (p : ℕ) (c : Cell K V) (k q : K) (v : V) (b : Bool) → p < length cs → c ≡ getD cs p c → c ≡ Used q v → Decides b (q ≡ k) → cond b seen.Mine seen.Other ≡ view e (at cs p) k
-  look-used cs p c k q v b l r u d =
-      let here : Used q v ≡ at cs p = sym u ∙ getD-read cs p c l r Free in
-      ap (λ t. cond t seen.Mine seen.Other) (same-from-decides b (e q k) d (dec q k)) ∙ ap (λ x. view e x k) here

@@ -39,6 +39,7 @@ module _ {K V : Type 0} where
   taken (Free ∷ cells) = taken cells
   taken (Used q v ∷ cells) = 1 + taken cells
 
+  -- the cell at a place; past the end every place is free
   abbrev pub at : List (Cell K V) → ℕ → Cell K V
   at cells i = getD cells i Free
 
@@ -51,6 +52,7 @@ module _ {K V : Type 0} where
   Reached number n Named f =
       (i j : ℕ) (k : K) (v : V) → f i ≡ Used k v → j < n → gap n (home number n k) j < gap n (home number n k) i → (Named j → ⊥) → f j ≡ Free → ⊥
 
+  -- what a search relies on
   pub record Rules (number : K → ℕ) (n : ℕ) (Named : ℕ → Type 0) (f : ℕ → Cell K V) : Type 0 where
     pub once : Once f
     pub reached : Reached number n Named f

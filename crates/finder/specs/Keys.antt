@@ -8,12 +8,14 @@ use Rattle.types.specs.declared.orders.OrderNumber.{OrderNumber}
 use Rattle.types.specs.declared.orders.TraderId.{TraderId}
 use Rattle.finder.specs.Cells.{scattered}
 
+-- orders go by their number
 abbrev pub same-order : OrderNumber → OrderNumber → Bool
 same-order x y = eqb (x .number) (y .number)
 
 abbrev pub order-home : OrderNumber → ℕ
 order-home x = scattered (x .number)
 
+-- traders go by their letters
 abbrev pub same-trader : TraderId → TraderId → Bool
 same-trader x y = sameBytes (x .letters) (y .letters)
 

@@ -21,11 +21,13 @@ use Rattle.finder.specs.declared.shift.Step.{Step}
 use Rattle.finder.specs.declared.shift.Step.the-variants.{End, Stay, Move}
 use Rattle.finder.specs.Cells.{lookup, taken, at, gap, home}
 
+-- 1 where a key found something
 abbrev pub found : {V : Type 0} → Option V → ℕ
 found None = 0
 found (Some v) = 1
 
 module _ {K V : Type 0} where
+  -- the value of a cell
   abbrev pub held : Cell K V → Option V
   held Free = None
   held (Used q v) = Some v

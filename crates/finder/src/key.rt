@@ -1,4 +1,6 @@
 //! What a finder asks of its keys.
+//!
+//! A key of several parts is spread part by part, as `scatter(scatter(first) as u64 + second)`.
 ghost use mathlib.Core.Path.{_≡_};
 ghost use mathlib.Core.Bool.{Bool};
 ghost use Prim.Native.Nat.{ℕ};
@@ -17,7 +19,7 @@ pub trait Key: Copy {
     law decides: { (x y : Self) → Decides (equal x y) (x ≡ y) };
 
     fn same(&self, other: &Self) -> bool
-        ensures { λ r. ⌜ Decides r (now (self .entry) ≡ now (other .entry)) ⌝ };
+        ensures { λ r. ⌜ r ≡ equal (now (self .entry)) (now (other .entry)) ⌝ };
 
     fn spread(&self) -> usize
         ensures { λ r. ⌜ r ≡ number (now (self .entry)) ⌝ };
