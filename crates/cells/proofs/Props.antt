@@ -4,8 +4,8 @@ use mathlib.Core.HLevel.{⊥-prop, Π-prop, →-prop}
 use Prim.Native.Nat.{ℕ}
 use native.Mathlib.Nat.{ℕ-set}
 use lib.ListN.{length}
-use Rattle.finder.specs.declared.cells.Cell.{Cell}
-use Rattle.finder.specs.Cells.{at, Once, Reached, Rules, Sound}
+use Rattle.cells.specs.declared.cell.Cell.{Cell}
+use Rattle.cells.specs.Cells.{at, Once, Reached, Rules, Sound}
 
 module _ {K V : Type 0} (number : K → ℕ) where
   once-prop : (f : ℕ → Cell K V) → IsProp (Once f)

@@ -6,7 +6,7 @@ use lib.ListN.{getD}
 use Rattle.std.specs.shelf.Text.{sameBytes}
 use Rattle.types.specs.declared.orders.OrderNumber.{OrderNumber}
 use Rattle.types.specs.declared.orders.TraderId.{TraderId}
-use Rattle.finder.specs.Cells.{scattered}
+use Rattle.cells.specs.Cells.{scattered}
 
 -- orders go by their number
 abbrev pub same-order : OrderNumber → OrderNumber → Bool

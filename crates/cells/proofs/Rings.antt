@@ -5,7 +5,7 @@ use Prim.Native.Nat.{ℕ, _+_, _-_, _<_, _≤_}
 use native.Mathlib.Omega.{arith}
 use lib.Dec.{leb, eqb}
 use Rattle.std.proofs.shelf.Ways.{tells}
-use Rattle.finder.specs.Cells.{gap, after}
+use Rattle.cells.specs.Cells.{gap, after}
 
 pub gap-below : (n h j : ℕ) → h < n → j < n → gap n h j < n
 gap-below n h j a b = grind (arith, tells)

@@ -9,11 +9,11 @@ use Rattle.std.specs.Orderings.{Decides}
 use Rattle.std.specs.declared.option.Option.the-variants.{Some, None}
 use Rattle.std.proofs.shelf.Tests.{cond-true, cond-false, cases-lt}
 use Rattle.std.proofs.shelf.Lists.{getD-past}
-use Rattle.finder.specs.declared.cells.Cell.{Cell}
-use Rattle.finder.specs.declared.cells.Cell.the-variants.{Free, Used}
-use Rattle.finder.specs.declared.search.View.the-variants as seen
-use Rattle.finder.specs.Cells.{lookup, at, Once}
-use Rattle.finder.specs.Searching.{view}
+use Rattle.cells.specs.declared.cell.Cell.{Cell}
+use Rattle.cells.specs.declared.cell.Cell.the-variants.{Free, Used}
+use Rattle.cells.specs.declared.search.View.the-variants as seen
+use Rattle.cells.specs.Cells.{lookup, at, Once}
+use Rattle.cells.specs.Searching.{view}
 use mathlib.Core.Logic.{_⊎_, inl, inr}
 
 pub free-not-used : {K V : Type 0} (c : Cell K V) (k : K) (v : V) → c ≡ Free → c ≡ Used k v → ⊥

@@ -10,15 +10,15 @@ use Rattle.std.specs.Orderings.{Decides}
 use Rattle.std.specs.declared.option.Option.the-variants.{None}
 use Rattle.std.proofs.shelf.Bits.{mod-below}
 use Rattle.std.proofs.shelf.Tests.{cases-order, cases-lt}
-use Rattle.finder.specs.declared.search.Seek.the-variants.{Here, Open, Full}
-use Rattle.finder.specs.declared.search.View.the-variants as seen
-use Rattle.finder.specs.declared.cells.Cell.{Cell}
-use Rattle.finder.specs.declared.cells.Cell.the-variants.{Free, Used}
-use Rattle.finder.specs.Cells.{lookup, after, at, gap, home, Rules, Sound}
-use Rattle.finder.specs.Searching.{view, Sought}
-use Rattle.finder.proofs.Rings.{gap-below, gap-same, gap-once, gap-next, next-below}
-use Rattle.finder.proofs.Lookups.{free-not-used, used-below, lookup-none, lookup-some, view-free, view-mine, view-other}
-use Rattle.finder.proofs.Counts.{taken-all}
+use Rattle.cells.specs.declared.search.Seek.the-variants.{Here, Open, Full}
+use Rattle.cells.specs.declared.search.View.the-variants as seen
+use Rattle.cells.specs.declared.cell.Cell.{Cell}
+use Rattle.cells.specs.declared.cell.Cell.the-variants.{Free, Used}
+use Rattle.cells.specs.Cells.{lookup, after, at, gap, home, Rules, Sound}
+use Rattle.cells.specs.Searching.{view, Sought}
+use Rattle.cells.proofs.Rings.{gap-below, gap-same, gap-once, gap-next, next-below}
+use Rattle.cells.proofs.Lookups.{free-not-used, used-below, lookup-none, lookup-some, view-free, view-mine, view-other}
+use Rattle.cells.proofs.Counts.{taken-all}
 
 module _ {K V : Type 0} (e : K → K → Bool) (dec : (x y : K) → Decides (e x y) (x ≡ y)) (number : K → ℕ) where
   -- i places from the key's home on are other keys', and p comes next

@@ -3,11 +3,11 @@ use mathlib.Core.Path.{_≡_}
 use native.Mathlib.Omega.{arith}
 use lib.ListN.{length}
 use Rattle.std.proofs.shelf.Edits.{fill-by-more}
-use Rattle.finder.specs.declared.cells.Cell.the-variants.{Free}
-use Rattle.finder.specs.Cells.{at}
-use Rattle.finder.proofs.Counts.{taken-none}
-use Rattle.finder.proofs.Walks.{free-sound, free-none}
-use Rattle.finder.proofs.finder.clear.Needs as need
+use Rattle.cells.specs.declared.cell.Cell.the-variants.{Free}
+use Rattle.cells.specs.Cells.{at}
+use Rattle.cells.proofs.Counts.{taken-none}
+use Rattle.cells.proofs.Walks.{free-sound, free-none}
+use Rattle.cells.proofs.search.clear.Needs as need
 
 pub loop-i-again : need.loop-i-again
 loop-i-again g c = fill-by-more (λ _. Free) (c .loop-i .cells) (c .loop-i .i) Free (omega arith) (c .loop-i .inv)

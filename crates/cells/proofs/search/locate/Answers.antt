@@ -1,6 +1,6 @@
 use native.Mathlib.Omega.{arith}
-use Rattle.finder.proofs.Walks.{walk-start, walk-on, sought-open, sought-here, sought-full, sought-empty}
-use Rattle.finder.proofs.search.locate.Needs as need
+use Rattle.cells.proofs.Walks.{walk-start, walk-on, sought-open, sought-here, sought-full, sought-empty}
+use Rattle.cells.proofs.search.locate.Needs as need
 
 pub returns-then-n-eq0 : need.returns-then-n-eq0
 returns-then-n-eq0 g c = sought-empty (g .K·Key .equal) (g .K·Key·met .decides) (g .K·Key .number) (c .args .cells .now) (c .args .key .now) (omega arith)

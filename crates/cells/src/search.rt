@@ -2,14 +2,15 @@
 ghost use mathlib.Core.Path.{_≡_};
 ghost use Prim.Native.Nat.{_<_};
 ghost use lib.ListN.{length};
-ghost use Rattle.finder.specs.Cells.{at, after, Sound};
-ghost use Rattle.finder.specs.Searching.{view, held, Sought};
-use crate::cells::Cell;
+ghost use Rattle.std.specs.declared.option.Option.the-variants.{None};
+ghost use Rattle.cells.specs.Cells.{lookup, taken, at, after, Sound};
+ghost use Rattle.cells.specs.Searching.{view, held, Sought};
+use crate::cell::Cell;
 use crate::key::Key;
 
 /// Where a key stands; or else the free place where a search for it ends; or else that no place is free.
 #[derive(Clone, Copy)]
-pub(crate) enum Seek {
+pub enum Seek {
     Here(usize),
     Open(usize),
     Full,
@@ -35,14 +36,15 @@ fn look<K: Key, V: Copy>(cells: &[Cell<K, V>], p: usize, key: &K) -> View
 }
 
 /// The next place, round the end.
-pub(crate) fn next_place(p: usize, n: usize) -> usize
+pub fn next_place(p: usize, n: usize) -> usize
     requires { ⌜ p < n ⌝ }
     ensures { λ r. ⌜ r ≡ after n p ⌝ }
 {
     if p + 1 == n { 0 } else { p + 1 }
 }
 
-pub(crate) fn locate<K: Key, V: Copy>(cells: &[Cell<K, V>], key: &K) -> Seek
+/// Where the key stands, or may stand.
+pub fn locate<K: Key, V: Copy>(cells: &[Cell<K, V>], key: &K) -> Seek
     requires { ⌜ Sound number (now cells) ⌝ }
     ensures { λ r. ⌜ Sought equal number (now (cells .entry)) (now (key .entry)) r ⌝ }
 {
@@ -67,7 +69,7 @@ pub(crate) fn locate<K: Key, V: Copy>(cells: &[Cell<K, V>], key: &K) -> Seek
 }
 
 /// The value at a place, if it is used.
-pub(crate) fn value_at<K: Copy, V: Copy>(cells: &[Cell<K, V>], p: usize) -> Option<V>
+pub fn value_at<K: Copy, V: Copy>(cells: &[Cell<K, V>], p: usize) -> Option<V>
     requires { ⌜ p < length (now cells) ⌝ }
     ensures { λ r. ⌜ r ≡ held (at (now (cells .entry)) p) ⌝ }
 {
@@ -75,5 +77,28 @@ pub(crate) fn value_at<K: Copy, V: Copy>(cells: &[Cell<K, V>], p: usize) -> Opti
     match cell {
         Cell::Free => None,
         Cell::Used(_k, v) => Some(v),
+    }
+}
+
+/// What the key finds.
+pub fn find<K: Key, V: Copy>(cells: &[Cell<K, V>], key: &K) -> Option<V>
+    requires { ⌜ Sound number (now cells) ⌝ }
+    ensures { λ r. ⌜ r ≡ lookup equal (now (cells .entry)) (now (key .entry)) ⌝ }
+{
+    match locate(cells, key) {
+        Seek::Here(p) => value_at(cells, p),
+        Seek::Open(_p) => None,
+        Seek::Full => None,
+    }
+}
+
+/// Sets every place free, whatever the cells hold.
+pub fn clear<K: Key, V: Copy>(cells: &mut [Cell<K, V>])
+    ensures sound { λ _. ⌜ Sound number (now (cells .exit)) ⌝ }
+    ensures none { λ _. ⌜ ((q : K) → lookup equal (now (cells .exit)) q ≡ None) ⌝ }
+    ensures taken { λ _. ⌜ taken (now (cells .exit)) ≡ 0 ⌝ }
+{
+    for i in 0..cells.len() {
+        cells[i] = Cell::Free;
     }
 }

@@ -5,9 +5,9 @@ use Prim.Native.Nat.{ℕ, zero, suc, _+_, _-_, _%_, _<_, _≤_}
 use native.Mathlib.Omega.{arith}
 use lib.ListN.{length, getD, set, length-set}
 use Rattle.std.proofs.shelf.Lists.{getD-set-same, getD-set-other}
-use Rattle.finder.specs.declared.cells.Cell.{Cell}
-use Rattle.finder.specs.declared.cells.Cell.the-variants.{Free, Used}
-use Rattle.finder.specs.Cells.{taken, at, gap, home}
+use Rattle.cells.specs.declared.cell.Cell.{Cell}
+use Rattle.cells.specs.declared.cell.Cell.the-variants.{Free, Used}
+use Rattle.cells.specs.Cells.{taken, at, gap, home}
 
 module _ {K V : Type 0} where
   -- the sum of what each cell weighs at its place

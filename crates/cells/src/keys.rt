@@ -1,5 +1,5 @@
 //! The keys of a book's registers: order numbers, and traders by their six letters.
-ghost use Rattle.finder.specs.Keys.{same-order, order-home, same-trader, trader-home};
+ghost use Rattle.cells.specs.Keys.{same-order, order-home, same-trader, trader-home};
 use crate::key::Key;
 use crate::key::scatter;
 use types::OrderNumber;

@@ -7,7 +7,7 @@ ghost use Prim.Native.Nat.{ℕ};
 ghost use lib.Dec.{eqb};
 ghost use denote.Ref.{now};
 ghost use Rattle.std.specs.Orderings.{Decides};
-ghost use Rattle.finder.specs.Cells.{scattered};
+ghost use Rattle.cells.specs.Cells.{scattered};
 
 pub trait Key: Copy {
     /// Whether two keys are the same.
