@@ -1,7 +1,5 @@
 //! The map over lent cells.
 ghost use mathlib.Core.Path.{_≡_};
-ghost use Prim.Native.Nat.{_+_};
-ghost use lib.ListN.{length};
 ghost use denote.Ref.{name};
 ghost use Rattle.std.specs.declared.option.Option.the-variants.{None};
 ghost use Rattle.cells.specs.Cells.{lookup, taken, Sound};
