@@ -1,3 +1,3 @@
-pub mod Grows
-pub mod Written
-pub mod ReadBack
+mod Grows
+mod Written
+mod ReadBack

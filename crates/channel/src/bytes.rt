@@ -1,10 +1,9 @@
 //! Report frames one after another.
 ghost use mathlib.Core.Path.{_≡_};
-ghost use Prim.Native.Nat.{_-_, _/_, _<_};
+ghost use Prim.Native.Nat.{_/_, _<_};
 ghost use lib.ListN.{length};
 ghost use Rattle.std.specs.Results.{Cases};
 ghost use denote.Ref.{now, name};
-ghost use Rattle.wire.specs.Reports.{report-bytes};
 ghost use Rattle.channel.specs.Following.{same-by};
 ghost use Rattle.channel.specs.Frames.{report-in, reports-in, frames-left, Read-back};
 use crate::channel::Channel;

@@ -13,15 +13,15 @@ use Rattle.std.proofs.shelf.Lists.{getD-set-same, getD-set-other, getD-read}
 use Rattle.std.proofs.shelf.Bits.{mod-below}
 use Rattle.std.proofs.shelf.Ways.{tells}
 use Rattle.std.proofs.shelf.Tests.{cases-eq, cases-lt, cases-bool}
-use Rattle.finder.specs.declared.cells.Cell.{Cell}
-use Rattle.finder.specs.declared.cells.Cell.the-variants.{Free, Used}
+use Rattle.cells.specs.declared.cell.Cell.{Cell}
+use Rattle.cells.specs.declared.cell.Cell.the-variants.{Free, Used}
 use Rattle.finder.specs.declared.shift.Step.{Step}
 use Rattle.finder.specs.declared.shift.Step.the-variants.{End, Stay, Move}
-use Rattle.finder.specs.Cells.{lookup, taken, at, gap, after, home, Rules, Sound, Sound-but}
-use Rattle.finder.specs.Searching.{step}
-use Rattle.finder.proofs.Rings.{gap-below, gap-same, gap-once-to, gap-nearer, gap-round, gap-apart, gap-over, gap-turned, next-below}
-use Rattle.finder.proofs.Lookups.{free-not-used, used-below, lookup-none, lookup-some, lookup-set}
-use Rattle.finder.proofs.Counts.{away, off, taken-moved, weigh-moved}
+use Rattle.cells.specs.Cells.{lookup, taken, at, gap, after, home, Rules, Sound, Sound-but}
+use Rattle.finder.specs.Changes.{step}
+use Rattle.cells.proofs.Rings.{gap-below, gap-same, gap-once-to, gap-nearer, gap-round, gap-apart, gap-over, gap-turned, next-below}
+use Rattle.cells.proofs.Lookups.{free-not-used, used-below, lookup-none, lookup-some, lookup-set}
+use Rattle.cells.proofs.Counts.{away, off, taken-moved, weigh-moved}
 use Rattle.finder.proofs.Writes.{rules-put, rules-hole}
 
 -- what a step says of the cell

@@ -13,13 +13,14 @@ use Rattle.std.specs.declared.option.Option.the-variants.{Some, None}
 use Rattle.std.specs.declared.result.Result.the-variants.{Ok}
 use Rattle.std.proofs.shelf.Lists.{getD-set-same, getD-set-other}
 use Rattle.std.proofs.shelf.Tests.{cases-eq, cases-bool, cond-true, cond-false}
-use Rattle.finder.specs.declared.search.Seek.the-variants.{Open}
-use Rattle.finder.specs.declared.cells.Cell.{Cell}
-use Rattle.finder.specs.declared.cells.Cell.the-variants.{Free, Used}
-use Rattle.finder.specs.Cells.{lookup, taken, at, gap, home, Rules, Sound, Sound-but}
-use Rattle.finder.specs.Searching.{found, held, Sought, Inserted, Removed}
-use Rattle.finder.proofs.Lookups.{free-not-used, lookup-none, lookup-some, lookup-set}
-use Rattle.finder.proofs.Counts.{one, taken-set, taken-most}
+use Rattle.cells.specs.declared.search.Seek.the-variants.{Open}
+use Rattle.cells.specs.declared.cell.Cell.{Cell}
+use Rattle.cells.specs.declared.cell.Cell.the-variants.{Free, Used}
+use Rattle.cells.specs.Cells.{lookup, taken, at, gap, home, Rules, Sound, Sound-but}
+use Rattle.cells.specs.Searching.{held, Sought}
+use Rattle.finder.specs.Changes.{found, Inserted, Removed}
+use Rattle.cells.proofs.Lookups.{free-not-used, lookup-none, lookup-some, lookup-set}
+use Rattle.cells.proofs.Counts.{one, taken-set, taken-most}
 
 -- One place of f is another cell in f'.
 module _ {K V : Type 0} (number : K → ℕ) (n : ℕ) (f f' : ℕ → Cell K V) (i : ℕ) (rest : (j : ℕ) → (j ≡ i → ⊥) → f' j ≡ f j) where

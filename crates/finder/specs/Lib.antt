@@ -1,3 +1,1 @@
-pub mod Cells
-pub mod Searching
-pub mod Keys
+pub mod Changes

@@ -1,29 +1,21 @@
 //! The map over lent cells.
 ghost use mathlib.Core.Path.{_≡_};
-ghost use Prim.Native.Nat.{_+_};
-ghost use lib.ListN.{length};
 ghost use denote.Ref.{name};
 ghost use Rattle.std.specs.declared.option.Option.the-variants.{None};
-ghost use Rattle.finder.specs.Cells.{lookup, taken, Sound};
-ghost use Rattle.finder.specs.Searching.{Inserted, Removed};
-use crate::cells::Cell;
-use crate::cells::Full;
-use crate::key::Key;
-use crate::search::Seek;
-use crate::search::locate;
-use crate::search::value_at;
+ghost use Rattle.cells.specs.Cells.{lookup, taken, Sound};
+ghost use Rattle.finder.specs.Changes.{Inserted, Removed};
 use crate::shift::draw_up;
+use cells::Cell;
+use cells::Key;
+use cells::Seek;
+use cells::clear;
+use cells::find;
+use cells::locate;
+use cells::value_at;
 
-fn find<K: Key, V: Copy>(cells: &[Cell<K, V>], key: &K) -> Option<V>
-    requires { ⌜ Sound number (now cells) ⌝ }
-    ensures { λ r. ⌜ r ≡ lookup equal (now (cells .entry)) (now (key .entry)) ⌝ }
-{
-    match locate(cells, key) {
-        Seek::Here(p) => value_at(cells, p),
-        Seek::Open(_p) => None,
-        Seek::Full => None,
-    }
-}
+/// No place is free for a new key.
+#[derive(Clone, Copy)]
+pub struct Full;
 
 fn insert<K: Key, V: Copy>(cells: &mut [Cell<K, V>], key: K, value: V) -> Result<Option<V>, Full>
     requires { ⌜ Sound number (now cells) ⌝ }
@@ -58,16 +50,6 @@ fn remove<K: Key, V: Copy>(cells: &mut [Cell<K, V>], key: &K) -> Option<V>
         }
         Seek::Open(_p) => None,
         Seek::Full => None,
-    }
-}
-
-fn clear<K: Key, V: Copy>(cells: &mut [Cell<K, V>])
-    ensures sound { λ _. ⌜ Sound number (now (cells .exit)) ⌝ }
-    ensures none { λ _. ⌜ ((q : K) → lookup equal (now (cells .exit)) q ≡ None) ⌝ }
-    ensures taken { λ _. ⌜ taken (now (cells .exit)) ≡ 0 ⌝ }
-{
-    for i in 0..cells.len() {
-        cells[i] = Cell::Free;
     }
 }
 

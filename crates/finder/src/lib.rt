@@ -1,21 +1,11 @@
 //! A finder keeps values by key in lent cells: one map for every kind of key.
 //!
-//! Open addressing: a key is looked for from its home place on, round the end of the cells, up to the first free place.
+//! A key is looked for from its home place on, round the end of the cells, up to the first free place.
 //! A removal draws the keys behind it nearer to their homes, so that the place is free again and no search grows longer by it.
 //!
 //! `Sound` says that a search finds every key. Each method but `clear` asks for it, and each that changes the cells keeps it.
-mod cells;
 mod finder;
-mod key;
-mod keys;
-mod search;
 mod shift;
 
-pub use cells::Cell;
-pub use cells::Full;
 pub use finder::Finder;
-pub use key::Key;
-pub use key::NumberKey;
-pub use key::scatter;
-pub use keys::OrderKey;
-pub use keys::TraderKey;
+pub use finder::Full;

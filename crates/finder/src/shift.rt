@@ -2,12 +2,12 @@
 ghost use mathlib.Core.Path.{_≡_};
 ghost use Prim.Native.Nat.{_<_};
 ghost use lib.ListN.{length};
-ghost use Rattle.finder.specs.declared.cells.Cell.the-variants.{Free};
-ghost use Rattle.finder.specs.Cells.{at, gap, lookup, taken, Sound, Sound-but};
-ghost use Rattle.finder.specs.Searching.{step};
-use crate::cells::Cell;
-use crate::key::Key;
-use crate::search::next_place;
+ghost use Rattle.cells.specs.declared.cell.Cell.the-variants.{Free};
+ghost use Rattle.cells.specs.Cells.{at, gap, lookup, taken, Sound, Sound-but};
+ghost use Rattle.finder.specs.Changes.{step};
+use cells::Cell;
+use cells::Key;
+use cells::next_place;
 
 /// What a place means for a hole before it: the row of keys ends there, its key stays, or its key moves into the hole.
 #[derive(Clone, Copy)]

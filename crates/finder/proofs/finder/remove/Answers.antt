@@ -2,7 +2,7 @@ use mathlib.Core.Path.{sym, subst}
 use Prim.Native.Nat.{_<_}
 use lib.ListN.{length-set}
 use Rattle.std.proofs.shelf.Lists.{getD-set-same}
-use Rattle.finder.specs.declared.cells.Cell.the-variants.{Free}
+use Rattle.cells.specs.declared.cell.Cell.the-variants.{Free}
 use Rattle.finder.proofs.Writes.{sound-hole, here-removed}
 use Rattle.finder.proofs.finder.remove.Needs as need
 

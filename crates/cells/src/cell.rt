@@ -1,0 +1,6 @@
+//! A cell.
+#[derive(Clone, Copy)]
+pub enum Cell<K, V> {
+    Free,
+    Used(K, V),
+}
