@@ -11,7 +11,7 @@ use Rattle.std.specs.shelf.Lists.{kept-by, removed}
 use Rattle.std.proofs.shelf.Lists.{set-set, getD-set-same, length-set}
 use Rattle.std.proofs.shelf.Tests.{lt-ltb, le-ltb, ltb-true, ltb-false, eq-eqb, ne-eqb, cond-true, cond-false, cond-both, eqb-true, both-ways}
 use Rattle.table.specs.declared.records.OrderRecord.{OrderRecord}
-use Rattle.table.specs.Sequence.{record-at, in-turn, in-sequence, earlier, rank, Distinct, Older}
+use Rattle.table.specs.Sequence.{blank-record, record-at, freed, in-turn, in-sequence, earlier, rank, Distinct, Older}
 
 -- P of each record
 abbrev pub Each : (OrderRecord → Type 0) → List OrderRecord → Type 0
@@ -266,7 +266,7 @@ earlier-sequence (o ∷ os) t =
     (λ e. let more = earlier-turn o (in-sequence os) t in omega arith)
     (λ e. let none : one o t ≡ 0 = cond-false _ _ _ e in omega arith)
 
-one-yes : (r : OrderRecord) (t : ℕ) → r .live ≡ true → r .time < t → one r t ≡ 1
+pub one-yes : (r : OrderRecord) (t : ℕ) → r .live ≡ true → r .time < t → one r t ≡ 1
 one-yes r t on lt = cond-true _ _ _ on ∙ cond-true _ _ _ (lt-ltb (r .time) t lt)
 
 one-no : (r : OrderRecord) (t : ℕ) → t ≤ r .time → one r t ≡ 0
@@ -278,18 +278,18 @@ earlier-none (x ∷ l) t h = let a = one-no x t (h .0) in let b = earlier-none l
 
 -- At its count of earlier ones stands the record itself.
 
-abbrev On : OrderRecord → List OrderRecord → Type 0
+abbrev pub On : OrderRecord → List OrderRecord → Type 0
 On y [] = ⊥
 On y (x ∷ l) = (y ≡ x) ⊎ On y l
 
-each-on : (P : OrderRecord → Type 0) (l : List OrderRecord) (y : OrderRecord) → Each P l → On y l → P y
+pub each-on : (P : OrderRecord → Type 0) (l : List OrderRecord) (y : OrderRecord) → Each P l → On y l → P y
 each-on P [] y h m = absurd m
 each-on P (x ∷ l) y h m = ⊎-elim (λ e. subst P (sym e) (h .0)) (λ n. each-on P l y (h .1) n) m
 
-at-first : (x : OrderRecord) (l : List OrderRecord) (t : ℕ) → x .time ≡ t → Each (λ y. x .time < y .time) l → earlier (x ∷ l) t ≡ 0
+pub at-first : (x : OrderRecord) (l : List OrderRecord) (t : ℕ) → x .time ≡ t → Each (λ y. x .time < y .time) l → earlier (x ∷ l) t ≡ 0
 at-first x l t e up = earlier-none (x ∷ l) t (omega arith, each-weaker (λ y. x .time < y .time) (λ y. t ≤ y .time) (λ y lt. omega arith) l up)
 
-at-later : (x : OrderRecord) (l : List OrderRecord) (t : ℕ) → x .live ≡ true → x .time < t → earlier (x ∷ l) t ≡ suc (earlier l t)
+pub at-later : (x : OrderRecord) (l : List OrderRecord) (t : ℕ) → x .live ≡ true → x .time < t → earlier (x ∷ l) t ≡ suc (earlier l t)
 at-later x l t on lt = let a = one-yes x t on lt in omega arith
 
 swapped-is-set : (o : OrderRecord) (l : List OrderRecord) (y : OrderRecord) → Climbs l → Each (λ x. x .live ≡ true) l → On y l → y .time ≡ o .time → swapped o l ≡ set l (earlier l (o .time)) o
@@ -332,7 +332,7 @@ on-turn x z (y ∷ l) h =
     elim (ltb (x .time) (y .time)) as (λ t. On z (cond t (x ∷ y ∷ l) (y ∷ in-turn x l)))
     [ true ↦ inr h | false ↦ ⊎-elim (λ e. inl e) (λ m. inr (on-turn x z l m)) h ]
 
-on-sequence : (os : List OrderRecord) (i : ℕ) → i < length os → record-at os i .live ≡ true → On (record-at os i) (in-sequence os)
+pub on-sequence : (os : List OrderRecord) (i : ℕ) → i < length os → record-at os i .live ≡ true → On (record-at os i) (in-sequence os)
 unfolding in-sequence
 on-sequence [] i lt on = absurd (omega arith)
 on-sequence (o ∷ os) zero lt on = subst (On o) (sym (cond-true _ _ _ on)) (on-turn-new o (in-sequence os))
@@ -340,39 +340,40 @@ on-sequence (o ∷ os) (suc i) lt on =
     let rest = on-sequence os i (omega arith) on in
     elim (o .live) as (λ t. On (record-at os i) (cond t (in-turn o (in-sequence os)) (in-sequence os))) [ true ↦ on-turn o (record-at os i) (in-sequence os) rest | false ↦ rest ]
 
--- The four writes, by the rank of what they change.
+live-set : (P : OrderRecord → Type 0) (os : List OrderRecord) (i : ℕ) (n : OrderRecord) → n .live ≡ false → Live P os → Live P (set os i n)
+live-set P [] i n free h = tt
+live-set P (x ∷ os) zero n free h = (λ e. absurd (both-ways (n .live) free e), h .1)
+live-set P (x ∷ os) (suc i) n free h = (h .0, live-set P os i n free (h .1))
 
-module _ (os : List OrderRecord) (i : ℕ) (o : OrderRecord) (within : i < length os) (was : record-at os i .live ≡ true) (apart : Distinct os) where
+-- A record written at a free place with the next timestamp.
+pub entered : (os : List OrderRecord) (i : ℕ) (o : OrderRecord) → i < length os → record-at os i .live ≡ false → o .live ≡ true
+    → Older (o .time) os → in-sequence (set os i o) ≡ in-sequence os ++ (o ∷ [])
+entered os i o within free new older = added os i o within free new (live-from (λ x. x .time < o .time) os older)
+
+-- A write at the place of a live record, by its rank.
+module _ (os : List OrderRecord) (i : ℕ) (within : i < length os) (was : record-at os i .live ≡ true) (apart : Distinct os) where
   alone : Others (λ x. x .time ≡ record-at os i .time → ⊥) os i
   alone = others-from (λ x. x .time ≡ record-at os i .time → ⊥) os i (λ k lt ne on same. ne (apart k i lt within on was same))
 
-  pub changed : o .live ≡ true → o .time ≡ record-at os i .time → in-sequence (set os i o) ≡ set (in-sequence os) (rank os i) o
-  changed new same =
+  pub changed : (o : OrderRecord) → o .live ≡ true → o .time ≡ record-at os i .time → in-sequence (set os i o) ≡ set (in-sequence os) (rank os i) o
+  changed o new same =
       let s = in-sequence os in
       swapped-in os i o within was new (sym same) (subst (λ t. Others (λ x. x .time ≡ t → ⊥) os i) (sym same) alone)
       ∙ swapped-is-set o s (record-at os i) (climbs os apart) (all-live os) (on-sequence os i within was) (sym same)
       ∙ ap (λ k. set s k o) (earlier-sequence os (o .time) ∙ ap (earlier os) same)
 
-  pub gone : o .live ≡ false → in-sequence (set os i o) ≡ removed (in-sequence os) (rank os i)
-  gone free =
+  pub gone : (o : OrderRecord) → o .live ≡ false → in-sequence (set os i o) ≡ removed (in-sequence os) (rank os i)
+  gone o free =
       let s = in-sequence os in
       let t = record-at os i .time in
       taken-out os i o t within was refl free alone
       ∙ without-is-removed t s (record-at os i) (climbs os apart) (all-live os) (on-sequence os i within was) refl
       ∙ ap (removed s) (earlier-sequence os t)
 
-  pub renewed : o .live ≡ true → Older (o .time) os → in-sequence (set os i o) ≡ removed (in-sequence os) (rank os i) ++ (o ∷ [])
-  renewed new older =
+  pub renewed : (o : OrderRecord) → o .live ≡ true → Older (o .time) os → in-sequence (set os i o) ≡ removed (in-sequence os) (rank os i) ++ (o ∷ [])
+  renewed o new older =
       let n = freed o in
       let long : i < length (set os i n) = simp length-set within in
       ap in-sequence (sym (set-set os i n o))
       ∙ added (set os i n) i o long (ap (λ (x : OrderRecord). x .live) (getD-set-same os i n blank-record within)) new (live-set (λ x. x .time < o .time) os i n refl (live-from (λ x. x .time < o .time) os older))
-      ∙ ap (λ l. l ++ (o ∷ [])) (gone-as n refl)
-    where
-      gone-as : (n : OrderRecord) → n .live ≡ false → in-sequence (set os i n) ≡ removed (in-sequence os) (rank os i)
-      gone-as n free =
-          let s = in-sequence os in
-          let t = record-at os i .time in
-          taken-out os i n t within was refl free alone
-          ∙ without-is-removed t s (record-at os i) (climbs os apart) (all-live os) (on-sequence os i within was) refl
-          ∙ ap (removed s) (earlier-sequence os t)
+      ∙ ap (λ l. l ++ (o ∷ [])) (gone n refl)

@@ -44,6 +44,14 @@ blank-record = record {
 abbrev pub record-at : List OrderRecord → ℕ → OrderRecord
 record-at os i = getD os i blank-record
 
+-- The record with its place set free.
+abbrev pub freed : OrderRecord → OrderRecord
+freed r = record { live = false; time = r .time; drawn = r .drawn; resting = r .resting }
+
+-- The record with the timestamp t.
+abbrev pub stamped : ℕ → OrderRecord → OrderRecord
+stamped t r = record { live = r .live; time = t; drawn = r .drawn; resting = r .resting }
+
 -- The record put before the first one with a later timestamp.
 abbrev pub in-turn : OrderRecord → List OrderRecord → List OrderRecord
 in-turn r [] = r ∷ []
