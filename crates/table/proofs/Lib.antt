@@ -1,0 +1,4 @@
+pub mod Turns
+pub mod Ranks
+pub mod Kept
+pub mod Resting
