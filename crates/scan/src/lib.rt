@@ -3,10 +3,10 @@ ghost use mathlib.Core.Path.{_≡_};
 ghost use Prim.Native.Nat.{_<_, _≤_};
 ghost use lib.ListN.{length};
 ghost use Rattle.runs.specs.Lists.{foremost};
-ghost use Rattle.runs.specs.Slices.{slices, taker as taker-of, facts, ahead, offered};
+ghost use Rattle.runs.specs.Slices.{slices, taker as taker-of, ahead, offered};
 ghost use Rattle.prices.specs.Prices.{is-peg};
-ghost use Rattle.table.specs.Sequence.{record-at, resting-of, Distinct};
-ghost use Rattle.scan.specs.Leading.{candidate, within-reach, goes-before, better-of, considered, visited, Leading, below, None-from, slice-of};
+ghost use Rattle.table.specs.Sequence.{resting-of, Distinct};
+ghost use Rattle.scan.specs.Leading.{candidate, goes-before, better-of, considered, visited, Leading, below, None-from, slice-of};
 use prices::View;
 use prices::executable_price;
 use prices::may_take;
@@ -18,7 +18,7 @@ use table::OrderRecord;
 use types::Order;
 use types::OrderKind;
 use types::Price;
-use types::Volume;
+use types::RestingOrder;
 
 /// A slice of the order at a place of the table, with what it is compared by.
 #[derive(Clone, Copy)]
@@ -40,10 +40,10 @@ fn taker(active: &Order) -> Taker
 }
 
 /// The price at which an order trades.
-fn price(view: &View, order: &OrderRecord) -> Price
-    ensures { λ r. ⌜ r ≡ offered (now (view .entry)) (now (order .entry) .resting) ⌝ }
+pub fn price(view: &View, resting: &RestingOrder) -> Price
+    ensures { λ r. ⌜ r ≡ offered (now (view .entry)) (now (resting .entry)) ⌝ }
 {
-    match executable_price(view, &order.resting.order.entry) {
+    match executable_price(view, &resting.order.entry) {
         Some(price) => price,
         None => Price { quarters: 0 },
     }
@@ -66,7 +66,7 @@ impl Candidate {
             place,
             time: order.time,
             facts: SliceFacts {
-                price: price(view, order),
+                price: price(view, &order.resting),
                 hidden,
                 peg: is_a_peg(order.resting.order.entry.kind),
                 broker: order.resting.order.broker,

@@ -1,14 +1,14 @@
 -- Writing to a sheet. Assumes nothing.
 use mathlib.Core.Path.{_≡_, refl, sym, ap, subst, _∙_}
-use mathlib.Core.List.{List, [], _∷_, _++_}
+use mathlib.Core.List.{List, [], _∷_, _++_, append-assoc, append-nil}
 use Prim.Native.Nat.{ℕ, zero, suc, _+_, _-_, _≤_, _<_}
-use native.Mathlib.Nat.{sub-zero, suc-sub-suc}
+use native.Mathlib.Nat.{add-zero, add-assoc, sub-zero, suc-sub-suc}
 use native.Mathlib.Numerals.{add-one}
 use native.Mathlib.Omega.{arith}
 use lib.ListN.{length, set, drop, length-set, length-append}
 use Rattle.types.specs.declared.reports.Report.{Report}
 use Rattle.types.specs.Reports.{blank}
-use Rattle.sheet.specs.Sheets.{sheet-of, Holds, Blank-beyond, blanked}
+use Rattle.sheet.specs.Sheets.{sheet-of, Holds, Adds, Blank-beyond, blanked}
 
 pub write-next : (n : ℕ) (list : List Report) (r : Report) → set (sheet-of n list) (length list) r ≡ sheet-of n (list ++ (r ∷ []))
 unfolding sheet-of
@@ -75,3 +75,20 @@ pub blank-beyond : (sheet : List Report) (count : ℕ) (list : List Report) → 
 blank-beyond sheet count list h =
     ap (λ (z : List Report). drop count z) (h .written) ∙ ap (λ (z : ℕ). drop z (sheet-of (length sheet) list)) (h .counted)
     ∙ beyond (length sheet) list ∙ ap (λ (z : ℕ). sheet-of (length sheet - z) []) (sym (h .counted))
+
+pub adds-one : (sheet : List Report) (count : ℕ) (new : List Report) (r : Report) → new ≡ set sheet count r → Adds sheet count new (count + 1) (r ∷ [])
+adds-one sheet count new r e = record {
+  holds = λ list h. subst (λ (z : List Report). Holds z (count + 1) (list ++ (r ∷ []))) (sym e) (pushed sheet count list r h);
+  counted = refl;
+  places = ap length e ∙ length-set sheet count r;
+}
+
+pub adds-none : (sheet : List Report) (count : ℕ) → Adds sheet count sheet count []
+adds-none sheet count = record { holds = λ list h. subst (Holds sheet count) (sym (append-nil list)) h; counted = sym (add-zero count); places = refl }
+
+pub adds-more : (s : List Report) (c : ℕ) (s′ : List Report) (c′ : ℕ) (s″ : List Report) (c″ : ℕ) (xs ys : List Report) → Adds s c s′ c′ xs → Adds s′ c′ s″ c″ ys → Adds s c s″ c″ (xs ++ ys)
+adds-more s c s′ c′ s″ c″ xs ys f g = record {
+  holds = λ list h. subst (Holds s″ c″) (append-assoc list xs ys) (g .holds (list ++ xs) (f .holds list h));
+  counted = omega (arith, f .counted, g .counted, length-append xs ys);
+  places = g .places ∙ f .places;
+}

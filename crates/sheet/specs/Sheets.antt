@@ -1,7 +1,7 @@
 -- What is on an event sheet.
 use mathlib.Core.Path.{_≡_}
-use mathlib.Core.List.{List, [], _∷_}
-use Prim.Native.Nat.{ℕ, zero, suc, _-_}
+use mathlib.Core.List.{List, [], _∷_, _++_}
+use Prim.Native.Nat.{ℕ, zero, suc, _+_, _-_}
 use lib.ListN.{length, drop}
 use Rattle.types.specs.declared.reports.Report.{Report}
 use Rattle.types.specs.Reports.{blank}
@@ -16,6 +16,12 @@ sheet-of (suc n) (r ∷ reports) = r ∷ sheet-of n reports
 pub record Holds (sheet : List Report) (count : ℕ) (reports : List Report) : Type 0 where
   pub counted : count ≡ length reports
   pub written : sheet ≡ sheet-of (length sheet) reports
+
+-- From one sheet and count to the next so many reports came behind the others, whatever those are; the sheet has the places that it had.
+pub record Adds (sheet : List Report) (count : ℕ) (sheet′ : List Report) (count′ : ℕ) (news : List Report) : Type 0 where
+  pub holds : (reports : List Report) → Holds sheet count reports → Holds sheet′ count′ (reports ++ news)
+  pub counted : count′ ≡ count + length news
+  pub places : length sheet′ ≡ length sheet
 
 -- Behind the reports counted the sheet is blank, as every call leaves it.
 abbrev pub Blank-beyond : List Report → ℕ → Type 0

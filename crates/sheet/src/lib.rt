@@ -1,12 +1,11 @@
 //! The event sheet: the lent memory that a call's reports are written to as it goes.
 ghost use mathlib.Core.Path.{_≡_};
-ghost use mathlib.Core.List.{List, [], _∷_, _++_};
+ghost use mathlib.Core.List.{[], _∷_};
 ghost use Prim.Native.Nat.{_+_, _<_, _≤_, _^_};
 ghost use lib.Dec.{leb};
 ghost use lib.ListN.{length, set};
 ghost use denote.Ref.{name};
-ghost use Rattle.types.specs.declared.reports.Report.{Report as Entry};
-ghost use Rattle.sheet.specs.Sheets.{sheet-of, Holds, Blank-beyond, blanked};
+ghost use Rattle.sheet.specs.Sheets.{sheet-of, Holds, Adds, Blank-beyond, blanked};
 use types::Report;
 
 /// The first `count` reports of a call, as far as there are places for them; the places behind them are blank.
@@ -63,9 +62,7 @@ impl EventSheet<'_> {
     /// Writes one report behind the others if there is a place, and counts it.
     pub fn push(&mut self, report: Report)
         requires { ⌜ now self .count + 1 < 2 ^ 64 ⌝ }
-        ensures holds { λ _. ⌜ ((list : List Entry) → Holds (now (now (self .entry) .reports)) (now (self .entry) .count) list → Holds (now (now (self .exit) .reports)) (now (self .exit) .count) (list ++ (report ∷ []))) ⌝ }
-        ensures counted { λ _. ⌜ now (self .exit) .count ≡ now (self .entry) .count + 1 ⌝ }
-        ensures places { λ _. ⌜ length (now (now (self .exit) .reports)) ≡ length (now (now (self .entry) .reports)) ⌝ }
+        ensures adds { λ _. ⌜ Adds (now (now (self .entry) .reports)) (now (self .entry) .count) (now (now (self .exit) .reports)) (now (self .exit) .count) (report ∷ []) ⌝ }
         ensures lent { λ _. ⌜ name (now (self .exit) .reports) ≡ name (now (self .entry) .reports) ⌝ }
     {
         let count = self.count;

@@ -1,0 +1,2 @@
+//! The run of an active order over the order table.
+mod meetings;
