@@ -1,0 +1,23 @@
+use mathlib.Core.Path.{refl, _∙_, ap, subst, sym}
+use Prim.Native.Nat.{_+_}
+use Rattle.table.specs.Sequence.{record-at, stamped, resting-of}
+use Rattle.table.specs.Places.{Sound}
+use Rattle.table.proofs.Resting.{renewed}
+use Rattle.table.proofs.Places.{sound-moved}
+use Rattle.table.proofs.to_end.Needs as need
+
+pub returns : need.returns
+returns c =
+    let os = c .args .orders .now in
+    let e = c .args .ends .now in
+    let i = c .args .i in
+    let o = stamped (e .next) (record-at os i) in
+    let p = c .pre in
+    let w = c .write .ensures in
+    record {
+      table = w .table;
+      list = ap resting-of (w .table) ∙ renewed os i (p .within) (p .rests) (p .sound .sequenced .distinct) o (p .rests) (p .sound .sequenced .older);
+      sound = subst (λ t. Sound t (record { low = e .low; high = e .high; next = e .next + 1 })) (sym (w .table)) (sound-moved os e (p .sound) i (p .within) o refl refl);
+      times = refl;
+      moved = w .moved;
+    }
