@@ -10,7 +10,7 @@ use native.Mathlib.Omega.{arith}
 use Rattle.std.specs.Options.{isSome}
 use Rattle.std.specs.declared.option.Option.{Option}
 use Rattle.std.specs.declared.option.Option.the-variants.{Some, None}
-use Rattle.std.proofs.shelf.Tests.{lt-ltb, le-ltb, cond-both, cond-true, cond-false}
+use Rattle.std.proofs.shelf.Tests.{lt-ltb, le-ltb, cases-lt, both-ways, cond-both, cond-true, cond-false}
 use Rattle.table.specs.declared.records.OrderRecord.{OrderRecord}
 use Rattle.table.specs.declared.ends.Ends.{Ends}
 use Rattle.table.specs.Sequence.{record-at, record-of, freed, stamped, in-turn, in-sequence, resting-of, Sequenced}
@@ -71,28 +71,44 @@ module _ (os : List OrderRecord) (e : Ends) (s : Sound os e) (i : ℕ) where
         inside = rw (length-set os i o) (least (length os) (s .inside) (omega arith));
         below = λ k h. places os i o here (λ m x. m < i + 1 → x .live ≡ true) (λ _. on) (λ m ne less. f .before m (omega (arith, ne))) k h;
         above = λ k h. places os i o here (λ m x. r ≤ m → x .live ≡ false) (λ far. absurd (never far)) (λ m ne far. s .above m (omega arith)) k h;
+        tight = λ k h. places os i o here (λ m x. m + 1 ≡ r → x .live ≡ true) (λ _. on) (λ m ne last. s .tight m (top m ne last)) k h;
         sequenced = sequenced-new os i o here (e .next) last (s .sequenced);
       }
     where
+      top : (m : ℕ) → (m ≡ i → ⊥) → m + 1 ≡ r → m + 1 ≡ e .high
+      top m ne last = ⊎-elim (λ same. last ∙ same) (λ same. absurd (ne (omega (arith, same)))) which
+        where
+          which : (r ≡ e .high) ⊎ (r ≡ i + 1)
+          which = ⊎-elim (λ lt′. inr (omega (arith, lt′, least (i + 1) (omega arith) (omega arith)))) (λ ge. inl (omega (arith, least (e .high) (omega arith) ge))) (cases-lt (e .high) (i + 1))
+
       never : r ≤ i → ⊥
       never far = omega arith
 
   module _ (within : i < length os) where
     -- An order that leaves its place.
-    pub sound-gone : (o : OrderRecord) (r : ℕ) → o .live ≡ false → r ≤ e .low → r ≤ i → Sound (set os i o) (record { low = r; high = e .high; next = e .next })
-    sound-gone o r free le lt =
-        let upto = s .order in
+    pub above-gone : (o : OrderRecord) → o .live ≡ false → (k : ℕ) → e .high ≤ k → record-at (set os i o) k .live ≡ false
+    above-gone o free k h = places os i o within (λ m x. e .high ≤ m → x .live ≡ false) (λ _. free) (λ m ne far. s .above m far) k h
+
+    pub sound-gone : (o : OrderRecord) (r h : ℕ) → o .live ≡ false → r ≤ e .low → r ≤ i → h ≤ e .high
+        → ((k : ℕ) → h ≤ k → record-at (set os i o) k .live ≡ false) → ((k : ℕ) → k + 1 ≡ h → record-at (set os i o) k .live ≡ true)
+        → Sound (set os i o) (record { low = r; high = h; next = e .next })
+    sound-gone o r h free le lt less above tight =
+        let upto = s .inside in
         record {
           small = rw (length-set os i o) (s .small);
-          order = omega arith;
-          inside = rw (length-set os i o) (s .inside);
-          below = λ k h. places os i o within (λ m x. m < r → x .live ≡ true) (λ less. absurd (never less)) (λ m ne less. s .below m (omega arith)) k h;
-          above = λ k h. places os i o within (λ m x. e .high ≤ m → x .live ≡ false) (λ _. free) (λ m ne far. s .above m far) k h;
+          order = ⊎-elim (λ under. absurd (both-ways (record-at (set os i o) h .live) (above h (omega arith)) (below h under))) (λ at. at) (cases-lt h r);
+          inside = rw (length-set os i o) (omega arith);
+          below = below;
+          above = above;
+          tight = tight;
           sequenced = sequenced-gone os i o within free (e .next) (s .sequenced);
         }
       where
         never : i < r → ⊥
         never less = omega arith
+
+        below : (k : ℕ) → k < r → record-at (set os i o) k .live ≡ true
+        below k h = places os i o within (λ m x. m < r → x .live ≡ true) (λ less. absurd (never less)) (λ m ne less. s .below m (omega arith)) k h
 
     -- A live record in its own place, with some sequence of timestamps.
     sound-there : (o : OrderRecord) (next : ℕ) → o .live ≡ record-at os i .live → Sequenced next (set os i o) → Sound (set os i o) (record { low = e .low; high = e .high; next = next })
@@ -103,6 +119,7 @@ module _ (os : List OrderRecord) (e : Ends) (s : Sound os e) (i : ℕ) where
           inside = rw (length-set os i o) (s .inside);
           below = λ k h. places os i o within (λ m x. m < e .low → x .live ≡ true) (λ less. on ∙ s .below i less) (λ m ne less. s .below m less) k h;
           above = λ k h. places os i o within (λ m x. e .high ≤ m → x .live ≡ false) (λ far. on ∙ s .above i far) (λ m ne far. s .above m far) k h;
+          tight = λ k h. places os i o within (λ m x. m + 1 ≡ e .high → x .live ≡ true) (λ top. on ∙ s .tight i top) (λ m ne top. s .tight m top) k h;
           sequenced = q;
         }
 

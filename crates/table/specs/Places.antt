@@ -2,7 +2,7 @@
 use mathlib.Core.Path.{_≡_}
 use mathlib.Core.Bool.{Bool, true, false}
 use mathlib.Core.List.{List}
-use Prim.Native.Nat.{ℕ, _<_, _≤_}
+use Prim.Native.Nat.{ℕ, _+_, _<_, _≤_}
 use lib.ListN.{length}
 use Rattle.std.specs.declared.option.Option.{Option}
 use Rattle.std.specs.declared.option.Option.the-variants.{Some, None}
@@ -10,13 +10,14 @@ use Rattle.table.specs.declared.records.OrderRecord.{OrderRecord}
 use Rattle.table.specs.declared.ends.Ends.{Ends}
 use Rattle.table.specs.Sequence.{record-at, Sequenced}
 
--- What holds of a table and its ends: every place below low is in use and none from high on, and no timestamp stands twice or from next on.
+-- What holds of a table and its ends: every place below low is in use, high stands right above the highest place in use, and no timestamp stands twice or from next on.
 pub record Sound (os : List OrderRecord) (e : Ends) : Type 0 where
   pub small : length os ≤ 65536
   pub order : e .low ≤ e .high
   pub inside : e .high ≤ length os
   pub below : (k : ℕ) → k < e .low → record-at os k .live ≡ true
   pub above : (k : ℕ) → e .high ≤ k → record-at os k .live ≡ false
+  pub tight : (k : ℕ) → k + 1 ≡ e .high → record-at os k .live ≡ true
   pub sequenced : Sequenced (e .next) os
 
 -- The place i is free, and all before it are in use.

@@ -1,6 +1,6 @@
 //! The ends of the table.
 
-/// Every place below `low` is in use, none from `high` on is, and every timestamp is below `next`.
+/// Every place below `low` is in use, `high` is right above the highest place in use, and every timestamp is below `next`.
 #[derive(Clone, Copy)]
 pub struct Ends {
     pub low: usize,

@@ -61,6 +61,24 @@ fn smaller(a: usize, b: usize) -> usize
     if b < a { b } else { a }
 }
 
+/// The mark above the highest place in use, which is no higher than `high`.
+fn highest(orders: &[OrderRecord], high: usize) -> usize
+    requires inside { ⌜ high ≤ length (now orders) ⌝ }
+    requires above { ⌜ ((k : ℕ) → high ≤ k → record-at (now orders) k .live ≡ false) ⌝ }
+    ensures least { λ r. ⌜ r ≤ high ⌝ }
+    ensures above { λ r. ⌜ ((k : ℕ) → r ≤ k → record-at (now (orders .entry)) k .live ≡ false) ⌝ }
+    ensures tight { λ r. ⌜ ((k : ℕ) → k + 1 ≡ r → record-at (now (orders .entry)) k .live ≡ true) ⌝ }
+{
+    let mut mark = high;
+    while mark > 0 {
+        if orders[mark - 1].live {
+            return mark;
+        }
+        mark -= 1;
+    }
+    mark
+}
+
 /// Puts an order at the first free place, which it answers, and at the end of the time list.
 pub fn enter(
     orders: &mut [OrderRecord],
@@ -74,7 +92,7 @@ pub fn enter(
     ensures table { λ r. ⌜ elim r [ Some i ↦ now (orders .exit) ≡ set (now (orders .entry)) i (record-of (now (ends .entry) .next) resting) | None ↦ now (orders .exit) ≡ now (orders .entry) ] ⌝ }
     ensures list { λ r. ⌜ elim r [ Some i ↦ resting-of (now (orders .exit)) ≡ resting-of (now (orders .entry)) ++ resting ∷ [] | None ↦ resting-of (now (orders .exit)) ≡ resting-of (now (orders .entry)) ] ⌝ }
     ensures sound { λ _. ⌜ Sound (now (orders .exit)) (now (ends .exit)) ⌝ }
-    ensures times { λ _. ⌜ now (ends .exit) .next ≤ now (ends .entry) .next + 1 ⌝ }
+    ensures times { λ r. ⌜ elim r [ Some i ↦ now (ends .exit) .next ≡ now (ends .entry) .next + 1 | None ↦ now (ends .exit) ≡ now (ends .entry) ] ⌝ }
     ensures moved { λ _. ⌜ Moved (now (orders .entry)) (now (journal .entry)) (now (orders .exit)) (now (journal .exit)) ⌝ }
 {
     match first_free(orders, *ends) {
@@ -110,6 +128,7 @@ pub fn leave(orders: &mut [OrderRecord], journal: &mut Journal, ends: &mut Ends,
     value.live = false;
     write(orders, journal, i, value);
     ends.low = smaller(ends.low, i);
+    ends.high = highest(orders, ends.high);
 }
 
 /// Gives an order the next timestamp: it keeps its place, and goes to the end of the time list.

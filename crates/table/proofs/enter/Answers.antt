@@ -1,6 +1,5 @@
 use mathlib.Core.Path.{refl, _∙_, ap, subst, sym}
 use Prim.Native.Nat.{_+_}
-use native.Mathlib.Omega.{arith}
 use Rattle.table.specs.Sequence.{record-of, resting-of}
 use Rattle.table.specs.Places.{Sound}
 use Rattle.table.proofs.Resting.{entered}
@@ -21,6 +20,6 @@ returns-in-Some c =
       table = w .table;
       list = ap resting-of (w .table) ∙ entered os i o (f .within) (f .free) refl (c .pre .sound .sequenced .older);
       sound = subst (λ t. Sound t (record { low = i + 1; high = c .larger-ends .result; next = e .next + 1 })) (sym (w .table)) (sound-entered os e (c .pre .sound) i o (c .larger-ends .result) f refl refl (b .0) (b .1) (b .2));
-      times = omega arith;
+      times = refl;
       moved = w .moved;
     }
