@@ -1,0 +1,4 @@
+pub mod Halves
+pub mod Places
+pub mod Unknown
+pub mod Parts

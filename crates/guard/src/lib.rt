@@ -1,0 +1,98 @@
+//! The guard over the order table and its spare copy behind it in one slice.
+mod copies;
+
+ghost use mathlib.Core.Path.{_≡_};
+ghost use mathlib.Core.List.{List};
+ghost use Prim.Native.Nat.{ℕ, _+_, _<_, _≤_};
+ghost use lib.ListN.{length, take, drop};
+ghost use denote.Ref.{name};
+ghost use Rattle.table.specs.declared.records.OrderRecord.{OrderRecord};
+ghost use Rattle.guard.specs.Keeping.{Kept};
+use copies::renew;
+use copies::restore;
+use table::Journal;
+use table::OrderRecord;
+
+/// A journal for a table and a spare of which nothing is known: the first call copies the whole.
+pub fn fresh(n: usize) -> Journal
+    requires { ⌜ n ≤ 65536 ⌝ }
+    ensures { λ r. ⌜ ((all : List OrderRecord) → n + n ≡ length all → Kept n all r) ⌝ }
+{
+    Journal {
+        places: [0; 128],
+        count: 0,
+        full: true,
+        high: n,
+    }
+}
+
+/// The start of a call: the spare becomes the table as the call finds it, and nothing is noted.
+pub fn start(all: &mut [OrderRecord], journal: &mut Journal, n: usize)
+    requires { ⌜ Kept n (now all) (now journal) ⌝ }
+    ensures front { λ _. ⌜ take n (now (all .exit)) ≡ take n (now (all .entry)) ⌝ }
+    ensures back { λ _. ⌜ drop n (now (all .exit)) ≡ take n (now (all .entry)) ⌝ }
+    ensures kept { λ _. ⌜ Kept n (now (all .exit)) (now (journal .exit)) ⌝ }
+{
+    renew(all, n, journal);
+    journal.count = 0;
+    journal.full = false;
+}
+
+/// The end of a refused call: the table becomes the spare, and nothing is noted.
+pub fn undo(all: &mut [OrderRecord], journal: &mut Journal, n: usize)
+    requires { ⌜ Kept n (now all) (now journal) ⌝ }
+    ensures front { λ _. ⌜ take n (now (all .exit)) ≡ drop n (now (all .entry)) ⌝ }
+    ensures back { λ _. ⌜ drop n (now (all .exit)) ≡ drop n (now (all .entry)) ⌝ }
+    ensures kept { λ _. ⌜ Kept n (now (all .exit)) (now (journal .exit)) ⌝ }
+{
+    restore(all, n, journal);
+    journal.count = 0;
+    journal.full = false;
+}
+
+/// The guard of a call: unless the call is accepted, its end restores the table.
+pub struct Guard<'a> {
+    pub all: &'a mut [OrderRecord],
+    pub journal: &'a mut Journal,
+    pub n: usize,
+}
+
+impl Drop for Guard<'_> {
+    fn drop(self)
+        requires { ⌜ Kept (self .n) (now (self .all)) (now (self .journal)) ⌝ }
+        ensures table { λ _. ⌜ take (self .entry .n) (now (self .exit .0)) ≡ drop (self .entry .n) (now (self .entry .all)) ⌝ }
+        ensures spare { λ _. ⌜ drop (self .entry .n) (now (self .exit .0)) ≡ drop (self .entry .n) (now (self .entry .all)) ⌝ }
+        ensures kept { λ _. ⌜ Kept (self .entry .n) (now (self .exit .0)) (now (self .exit .1 .0)) ⌝ }
+    {
+        let Guard { all, journal, n } = self;
+        undo(all, journal, n);
+    }
+}
+
+impl<'a> Guard<'a> {
+    /// Brings the spare up to date: it is the table as the call finds it.
+    pub fn begin(all: &'a mut [OrderRecord], journal: &'a mut Journal, n: usize) -> Guard<'a>
+        requires { ⌜ Kept n (now all) (now journal) ⌝ }
+        ensures size { λ r. ⌜ r .n ≡ n ⌝ }
+        ensures front { λ r. ⌜ take n (now (r .all)) ≡ take n (now (all .entry)) ⌝ }
+        ensures back { λ r. ⌜ drop n (now (r .all)) ≡ take n (now (all .entry)) ⌝ }
+        ensures kept { λ r. ⌜ Kept n (now (r .all)) (now (r .journal)) ⌝ }
+        ensures named { λ r. ⌜ name (r .all) ≡ name (all .entry) ⌝ }
+        ensures tied { λ r. ⌜ name (r .journal) ≡ name (journal .entry) ⌝ }
+    {
+        start(all, journal, n);
+        Guard { all, journal, n }
+    }
+
+    /// The call is accepted: the table stays as it is, and the journal with it.
+    pub fn accept(self)
+        ensures all { λ _. ⌜ now (self .exit .0) ≡ now (self .entry .all) ⌝ }
+        ensures journal { λ _. ⌜ now (self .exit .1 .0) ≡ now (self .entry .journal) ⌝ }
+    {
+        let Guard {
+            all: _,
+            journal: _,
+            n: _,
+        } = self;
+    }
+}
