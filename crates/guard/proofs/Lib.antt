@@ -2,3 +2,4 @@ pub mod Halves
 pub mod Places
 pub mod Unknown
 pub mod Parts
+pub mod Renumbered

@@ -1,5 +1,6 @@
 //! The guard over the order table and its spare copy behind it in one slice.
 mod copies;
+mod renumbering;
 
 ghost use mathlib.Core.Path.{_≡_};
 ghost use mathlib.Core.List.{List};
@@ -10,6 +11,7 @@ ghost use Rattle.table.specs.declared.records.OrderRecord.{OrderRecord};
 ghost use Rattle.guard.specs.Keeping.{Kept};
 use copies::renew;
 use copies::restore;
+pub use renumbering::make_room;
 use table::Journal;
 use table::OrderRecord;
 
