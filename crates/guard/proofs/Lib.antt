@@ -3,3 +3,4 @@ pub mod Places
 pub mod Unknown
 pub mod Parts
 pub mod Renumbered
+pub mod Props

@@ -8,10 +8,14 @@ ghost use Prim.Native.Nat.{ℕ, _+_, _<_, _≤_};
 ghost use lib.ListN.{length, take, drop};
 ghost use denote.Ref.{name};
 ghost use Rattle.table.specs.declared.records.OrderRecord.{OrderRecord};
+ghost use Rattle.table.specs.Sequence.{resting-of};
+ghost use Rattle.table.specs.Places.{Sound};
 ghost use Rattle.guard.specs.Keeping.{Kept};
+ghost use Rattle.guard.specs.Renumbering.{with-room};
 use copies::renew;
 use copies::restore;
-pub use renumbering::make_room;
+use renumbering::make_room;
+use table::Ends;
 use table::Journal;
 use table::OrderRecord;
 
@@ -84,6 +88,27 @@ impl<'a> Guard<'a> {
     {
         start(all, journal, n);
         Guard { all, journal, n }
+    }
+
+    /// Sees to it, right at the beginning, that half of all timestamps are to be had.
+    pub fn make_room(&mut self, ends: &mut Ends)
+        requires kept { ⌜ Kept (now self .n) (now (now self .all)) (now (now self .journal)) ⌝ }
+        requires same { ⌜ drop (now self .n) (now (now self .all)) ≡ take (now self .n) (now (now self .all)) ⌝ }
+        requires sound { ⌜ Sound (take (now self .n) (now (now self .all))) (now ends) ⌝ }
+        ensures size { λ _. ⌜ now (self .exit) .n ≡ now (self .entry) .n ⌝ }
+        ensures table { λ _. ⌜ take (now (self .entry) .n) (now (now (self .exit) .all)) ≡ with-room (now (ends .entry) .next) (take (now (self .entry) .n) (now (now (self .entry) .all))) ⌝ }
+        ensures spare { λ _. ⌜ drop (now (self .entry) .n) (now (now (self .exit) .all)) ≡ drop (now (self .entry) .n) (now (now (self .entry) .all)) ⌝ }
+        ensures list { λ _. ⌜ resting-of (take (now (self .entry) .n) (now (now (self .exit) .all))) ≡ resting-of (take (now (self .entry) .n) (now (now (self .entry) .all))) ⌝ }
+        ensures times { λ _. ⌜ now (ends .exit) .next < 9223372036854775808 ⌝ }
+        ensures sound { λ _. ⌜ Sound (take (now (self .entry) .n) (now (now (self .exit) .all))) (now (ends .exit)) ⌝ }
+        ensures kept { λ _. ⌜ Kept (now (self .entry) .n) (now (now (self .exit) .all)) (now (now (self .exit) .journal)) ⌝ }
+        ensures named { λ _. ⌜ name (now (self .exit) .all) ≡ name (now (self .entry) .all) ⌝ }
+        ensures tied { λ _. ⌜ name (now (self .exit) .journal) ≡ name (now (self .entry) .journal) ⌝ }
+    {
+        let n = self.n;
+        let mut notes = *self.journal;
+        make_room(self.all, &mut notes, n, ends);
+        *self.journal = notes;
     }
 
     /// The call is accepted: the table stays as it is, and the journal with it.

@@ -5,3 +5,4 @@ pub mod Resting
 pub mod Patching
 pub mod Noting
 pub mod Places
+pub mod Props
