@@ -93,7 +93,7 @@ module _ (os : List OrderRecord) where
       time k lt = ap (λ (r : OrderRecord). r .time) (at-map os k lt)
 
       same : (j k : ℕ) → j < length os → k < length os → record-at os j .live ≡ true → record-at os k .live ≡ true → rank os j ≡ rank os k → j ≡ k
-      same j k lj lk uj uk e = 
+      same j k lj lk uj uk e =
           let t = record-at os j .time in
           let u = record-at os k .time in
           let no : t < u → ⊥ = λ lt. apart (earlier-strict os j u lj uj lt) e in
