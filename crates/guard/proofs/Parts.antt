@@ -1,5 +1,5 @@
 -- The table lent out of the slice and come back.
-use mathlib.Core.Path.{_≡_, sym, subst, _∙_}
+use mathlib.Core.Path.{_≡_, sym, ap, subst, _∙_}
 use mathlib.Core.List.{List, _++_}
 use Prim.Native.Nat.{ℕ, _+_, _-_, _≤_, _<_}
 use lib.ListN.{length, set, take, drop, length-set, length-drop, length-append}
@@ -45,3 +45,17 @@ kept-put n all j j′ i o h f k =
           (subst (λ s. Agree n j′ (set (take n all) i o) s) (sym (drop-set-lt n all i o h))
           (f n (take n all) (drop n all) o h (length-take-le n all (omega arith)) (k .agree)));
     }
+
+-- What stands in the two halves then.
+module _ (n : ℕ) (all new : List OrderRecord) (both : n + n ≡ length all) (same : length new ≡ length (take (n - 0) all)) where
+  size : length new ≡ n
+  size = let whole : n - 0 ≡ n = omega arith in same ∙ ap (λ v. length (take v all)) whole ∙ length-take-le n all (omega arith)
+
+  pub part-table : take n (new ++ drop (n - 0) all) ≡ new
+  part-table = take-at new (drop (n - 0) all) n size
+
+  pub part-spare : drop n (new ++ drop (n - 0) all) ≡ drop n all
+  part-spare = let whole : n - 0 ≡ n = omega arith in drop-at new (drop (n - 0) all) n size ∙ ap (λ v. drop v all) whole
+
+pub part-lent : (n : ℕ) (all : List OrderRecord) → take (n - 0) all ≡ take n all
+part-lent n all = let whole : n - 0 ≡ n = omega arith in ap (λ v. take v all) whole

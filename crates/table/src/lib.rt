@@ -31,22 +31,33 @@ pub fn write(orders: &mut [OrderRecord], journal: &mut Journal, i: usize, value:
     journal.note(i);
 }
 
+/// The first free place, which is no lower than `low`; from `high` on all are free.
+fn scan_free(orders: &[OrderRecord], low: usize, high: usize) -> Option<usize>
+    requires inside { ⌜ high ≤ length (now orders) ⌝ }
+    requires below { ⌜ ((k : ℕ) → k < low → record-at (now orders) k .live ≡ true) ⌝ }
+    requires above { ⌜ ((k : ℕ) → high ≤ k → record-at (now orders) k .live ≡ false) ⌝ }
+    requires order { ⌜ low ≤ high ⌝ }
+    ensures { λ r. ⌜ Found (now (orders .entry)) r ⌝ }
+{
+    for i in low..high {
+        if !orders[i].live {
+            return Some(i);
+        }
+    }
+    if high < orders.len() {
+        Some(high)
+    } else {
+        None
+    }
+}
+
 /// The first free place; there is one exactly where fewer orders rest than the table has places.
 pub fn first_free(orders: &[OrderRecord], ends: Ends) -> Option<usize>
     requires { ⌜ Sound (now orders) ends ⌝ }
     ensures found { λ r. ⌜ Found (now (orders .entry)) r ⌝ }
     ensures room { λ r. ⌜ isSome r ≡ ltb (length (resting-of (now (orders .entry)))) (length (now (orders .entry))) ⌝ }
 {
-    for i in ends.low..ends.high {
-        if !orders[i].live {
-            return Some(i);
-        }
-    }
-    if ends.high < orders.len() {
-        Some(ends.high)
-    } else {
-        None
-    }
+    scan_free(orders, ends.low, ends.high)
 }
 
 fn larger(a: usize, b: usize) -> usize
@@ -97,12 +108,7 @@ pub fn enter(
 {
     match first_free(orders, *ends) {
         Some(i) => {
-            let value = OrderRecord {
-                live: true,
-                time: ends.next,
-                drawn: 0,
-                resting,
-            };
+            let value = OrderRecord::new(ends.next, resting);
             write(orders, journal, i, value);
             ends.low = i + 1;
             ends.high = larger(ends.high, i + 1);
@@ -124,8 +130,7 @@ pub fn leave(orders: &mut [OrderRecord], journal: &mut Journal, ends: &mut Ends,
     ensures times { λ _. ⌜ now (ends .exit) .next ≡ now (ends .entry) .next ⌝ }
     ensures moved { λ _. ⌜ Moved (now (orders .entry)) (now (journal .entry)) (now (orders .exit)) (now (journal .exit)) ⌝ }
 {
-    let mut value = orders[i];
-    value.live = false;
+    let value = orders[i].freed();
     write(orders, journal, i, value);
     ends.low = smaller(ends.low, i);
     ends.high = highest(orders, ends.high);
@@ -143,8 +148,7 @@ pub fn to_end(orders: &mut [OrderRecord], journal: &mut Journal, ends: &mut Ends
     ensures times { λ _. ⌜ now (ends .exit) .next ≡ now (ends .entry) .next + 1 ⌝ }
     ensures moved { λ _. ⌜ Moved (now (orders .entry)) (now (journal .entry)) (now (orders .exit)) (now (journal .exit)) ⌝ }
 {
-    let mut value = orders[i];
-    value.time = ends.next;
+    let value = orders[i].stamped(ends.next);
     write(orders, journal, i, value);
     ends.next += 1;
 }

@@ -1,5 +1,6 @@
 use mathlib.Core.Path.{refl, _∙_, ap, subst, sym}
 use Prim.Native.Nat.{_+_}
+use lib.ListN.{set}
 use Rattle.table.specs.Sequence.{record-at, stamped, resting-of}
 use Rattle.table.specs.Places.{Sound}
 use Rattle.table.proofs.Resting.{renewed}
@@ -14,10 +15,11 @@ returns c =
     let o = stamped (e .next) (record-at os i) in
     let p = c .pre in
     let w = c .write .ensures in
+    let after = w .table ∙ ap (set os i) (c .stamped-value .ensures) in
     record {
-      table = w .table;
-      list = ap resting-of (w .table) ∙ renewed os i (p .within) (p .rests) (p .sound .sequenced .distinct) o (p .rests) (p .sound .sequenced .older);
-      sound = subst (λ t. Sound t (record { low = e .low; high = e .high; next = e .next + 1 })) (sym (w .table)) (sound-moved os e (p .sound) i (p .within) o refl refl);
+      table = after;
+      list = ap resting-of after ∙ renewed os i (p .within) (p .rests) (p .sound .sequenced .distinct) o (p .rests) (p .sound .sequenced .older);
+      sound = subst (λ t. Sound t (record { low = e .low; high = e .high; next = e .next + 1 })) (sym after) (sound-moved os e (p .sound) i (p .within) o refl refl);
       times = refl;
       moved = w .moved;
     }
