@@ -12,7 +12,7 @@ use Rattle.table.specs.declared.records.OrderRecord.{OrderRecord}
 use Rattle.table.specs.Sequence.{blank-record, record-at, in-sequence, earlier, rank, Distinct}
 use Rattle.table.proofs.Turns.{Each, Climbs, On, one, climbs, all-live, earlier-sequence, each-live, live-from, on-sequence, each-on, at-first, at-later}
 
-one-le : (r : OrderRecord) (t : ℕ) → one r t ≤ 1
+pub one-le : (r : OrderRecord) (t : ℕ) → one r t ≤ 1
 one-le r t = grind (arith, tells)
 
 one-mono : (r : OrderRecord) (t u : ℕ) → t ≤ u → one r t ≤ one r u

@@ -44,6 +44,10 @@ blank-record = record {
 abbrev pub record-at : List OrderRecord → ℕ → OrderRecord
 record-at os i = getD os i blank-record
 
+-- The record of an order that comes to rest at the time t.
+abbrev pub record-of : ℕ → RestingOrder → OrderRecord
+record-of t o = record { live = true; time = t; drawn = 0; resting = o }
+
 -- The record with its place set free.
 abbrev pub freed : OrderRecord → OrderRecord
 freed r = record { live = false; time = r .time; drawn = r .drawn; resting = r .resting }
