@@ -52,6 +52,12 @@ live-inside [] k e = no-two false refl e
 live-inside (r ∷ os) zero e = omega arith
 live-inside (r ∷ os) (suc k) e = let h = live-inside os k e in omega arith
 
+-- What leads rests on the table.
+pub leads-live : (rule : Rule) (view : View) (a : Order) (os : List OrderRecord) (asked : ℕ → Bool → Type 0) (b : Candidate) → Leads rule view a os asked b → record-at os (b .place) .live ≡ true
+leads-live rule view a os asked b l =
+    and-left (record-at os (b .place) .live) (takes view a (record-at os (b .place) .resting .order))
+    (and-left (within-reach view a (record-at os (b .place))) (ltb 0 (volume-in (record-at os (b .place) .resting) (b .facts .hidden))) (l .is-open))
+
 -- Three answers: what goes before one that goes before a third goes before that one.
 chained : (xy yz xz yx zy zx : Ahead) (x y z : ℕ) → yx ≡ swapped xy → zy ≡ swapped yz → zx ≡ swapped xz
     → (is-second xy ≡ false → is-second yz ≡ false → is-second xz ≡ false)
