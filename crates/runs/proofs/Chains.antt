@@ -123,7 +123,7 @@ module _ (rule : Rule) (law : Lawful rule) (q : View) (a : Order) where
   first-not-level x e f = let z : _≡_ {A = ℕ} 0 1 = cc in omega arith
 
   -- the foremost slice of the definition is the foremost one of the relation
-  is-foremost : (st : Progress) (s : Slice) → foremost (ahead rule q a) (slices q a (st .others)) ≡ Some s → Foremost rule q a st s
+  pub is-foremost : (st : Progress) (s : Slice) → foremost (ahead rule q a) (slices q a (st .others)) ≡ Some s → Foremost rule q a st s
   unfolding answer ahead
   is-foremost st s e = record { here = slice-ok q a (st .others) s (top .0); first = λ t o. side t o (answer s t) refl }
     where
@@ -160,7 +160,7 @@ module _ (rule : Rule) (law : Lawful rule) (q : View) (a : Order) where
             | inr k ↦ inr (inr (x, k))
           ]
 
-  only-one-foremost : (st : Progress) (s t : Slice) → Foremost rule q a st s → Foremost rule q a st t → s ≡ t
+  pub only-one-foremost : (st : Progress) (s t : Slice) → Foremost rule q a st s → Foremost rule q a st t → s ≡ t
   unfolding answer
   only-one-foremost st s t f g = elim (f .first t (g .here)) [
     | inl e ↦ sym e

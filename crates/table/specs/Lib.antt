@@ -1,0 +1,3 @@
+pub mod Sequence
+pub mod Noting
+pub mod Places
