@@ -17,7 +17,7 @@ use Rattle.types.specs.declared.reports.Report.{Report}
 use Rattle.types.specs.Reports.{decremented}
 use Rattle.prices.specs.Prices.{View}
 use Rattle.runs.specs.Slices.{Slice, volume-of, volume-in, amount, offered}
-use Rattle.runs.specs.Meetings.{Effect, shares, trade-of, trading, stopped, smaller-out, active-out, resting-out, prevents, by-instruction, effect}
+use Rattle.runs.specs.Meetings.{Effect, shares, trade-of, trading, stopped, smaller-out, active-out, resting-out, prevents, by-instruction, meeting}
 use Rattle.runs.specs.Runs.{holding}
 use Rattle.slips.specs.Slips.{less, none, drawn-from, drawn-shown-first, emptied, all-of}
 use Rattle.sheet.specs.Sheets.{Adds}
@@ -90,29 +90,29 @@ module _ (a : Order) (left : ℕ) (o : RestingOrder) (left′ : Volume) (o′ : 
 
 -- The instruction decides.
 
-own-effect : (view : View) (a : Order) (left : ℕ) (o : RestingOrder) (hidden : Bool) (i : StpInstruction) → one-key a (o .order) ≡ true → a .entry .instruction ≡ i
-    → by-instruction (Some i) view a left (slice-from o hidden) ≡ effect view a left (slice-from o hidden)
-unfolding effect
-own-effect view a left o hidden i k e =
+own-meeting : (view : View) (a : Order) (left : ℕ) (o : RestingOrder) (hidden : Bool) (i : StpInstruction) → one-key a (o .order) ≡ true → a .entry .instruction ≡ i
+    → by-instruction (Some i) view a left (slice-from o hidden) ≡ meeting view a left (slice-from o hidden)
+unfolding meeting
+own-meeting view a left o hidden i k e =
     sym (ap (λ (z : Bool). by-instruction (cond z (Some (a .entry .instruction)) None) view a left (slice-from o hidden)) k ∙ ap (λ (z : StpInstruction). by-instruction (Some z) view a left (slice-from o hidden)) e)
 
-other-effect : (view : View) (a : Order) (left : ℕ) (o : RestingOrder) (hidden : Bool) → one-key a (o .order) ≡ false → trading view a left (slice-from o hidden) false ≡ effect view a left (slice-from o hidden)
-unfolding effect
-other-effect view a left o hidden k = sym (ap (λ (z : Bool). by-instruction (cond z (Some (a .entry .instruction)) None) view a left (slice-from o hidden)) k)
+other-meeting : (view : View) (a : Order) (left : ℕ) (o : RestingOrder) (hidden : Bool) → one-key a (o .order) ≡ false → trading view a left (slice-from o hidden) false ≡ meeting view a left (slice-from o hidden)
+unfolding meeting
+other-meeting view a left o hidden k = sym (ap (λ (z : Bool). by-instruction (cond z (Some (a .entry .instruction)) None) view a left (slice-from o hidden)) k)
 
 module _ (view : View) (a : Order) (left : ℕ) (o : RestingOrder) (hidden : Bool) (left′ : Volume) (o′ : RestingOrder) (s : List Report) (c : ℕ) (s′ : List Report) (c′ : ℕ) where
   abbrev Comes : Effect → Type 0
   Comes f = Comes-to f o left′ o′ s c s′ c′
 
-  pub by-own : (i : StpInstruction) → one-key a (o .order) ≡ true → a .entry .instruction ≡ i → Comes (by-instruction (Some i) view a left (slice-from o hidden)) → Comes (effect view a left (slice-from o hidden))
-  by-own i k e h = subst Comes (own-effect view a left o hidden i k e) h
+  pub by-own : (i : StpInstruction) → one-key a (o .order) ≡ true → a .entry .instruction ≡ i → Comes (by-instruction (Some i) view a left (slice-from o hidden)) → Comes (meeting view a left (slice-from o hidden))
+  by-own i k e h = subst Comes (own-meeting view a left o hidden i k e) h
 
-  pub by-other : one-key a (o .order) ≡ false → Comes (trading view a left (slice-from o hidden) false) → Comes (effect view a left (slice-from o hidden))
-  by-other k h = subst Comes (other-effect view a left o hidden k) h
+  pub by-other : one-key a (o .order) ≡ false → Comes (trading view a left (slice-from o hidden) false) → Comes (meeting view a left (slice-from o hidden))
+  by-other k h = subst Comes (other-meeting view a left o hidden k) h
 
-  pub by-off : a .entry .instruction ≡ Off → Comes (trading view a left (slice-from o hidden) false) → Comes (effect view a left (slice-from o hidden))
+  pub by-off : a .entry .instruction ≡ Off → Comes (trading view a left (slice-from o hidden) false) → Comes (meeting view a left (slice-from o hidden))
   by-off e h = go (one-key a (o .order)) refl
     where
-      go : (b : Bool) → one-key a (o .order) ≡ b → Comes (effect view a left (slice-from o hidden))
+      go : (b : Bool) → one-key a (o .order) ≡ b → Comes (meeting view a left (slice-from o hidden))
       go true k = by-own Off k e h
       go false k = by-other k h

@@ -21,7 +21,7 @@ use Rattle.prices.specs.Prices.{View}
 use Rattle.priority.specs.Priority.{Rule, Lawful}
 use Rattle.runs.specs.Lists.{At, at-place, foremost, sum-of}
 use Rattle.runs.specs.Slices.{Slice, volume-of, volume-in, amount, slices, ahead}
-use Rattle.runs.specs.Meetings.{Effect, shares, trading, smaller-out, active-out, resting-out, prevents, by-instruction, effect}
+use Rattle.runs.specs.Meetings.{Effect, shares, trading, smaller-out, active-out, resting-out, prevents, by-instruction, meeting}
 use Rattle.runs.specs.Runs.{Progress, holding, meet, next-slice, in-play, run}
 use Rattle.runs.proofs.Runs.{chosen, falls, run-stop, run-next}
 use Rattle.table.specs.declared.records.OrderRecord.{OrderRecord}
@@ -42,8 +42,8 @@ use Rattle.matching.specs.Meetings.{slice-from, Comes-to, met}
 use Rattle.matching.specs.Running.{on-table, Same-order, Same-orders, May-rest, All-may-rest}
 
 -- What a meeting comes to goes by the slice, wherever its order stands.
-pub anywhere : (view : View) (a : Order) (left : ℕ) (s : Slice) → effect view a left (slice-from (s .resting) (s .hidden)) ≡ effect view a left s
-unfolding effect trading
+pub anywhere : (view : View) (a : Order) (left : ℕ) (s : Slice) → meeting view a left (slice-from (s .resting) (s .hidden)) ≡ meeting view a left s
+unfolding meeting trading
 anywhere view a left s = go (prevents a (s .resting .order))
   where
     go : (i : Option StpInstruction) → by-instruction i view a left (slice-from (s .resting) (s .hidden)) ≡ by-instruction i view a left s
@@ -88,8 +88,8 @@ smaller-mild a left o = go (ltb left (volume-of o)) refl (ltb (volume-of o) left
     go false e true f = rw (e, f) (record { reserve = omega arith; volume = omega arith; few = omega arith })
     go false e false f = rw (e, f) (record { reserve = omega arith; volume = omega arith; few = omega arith })
 
-pub mild : (view : View) (a : Order) (left : ℕ) (s : Slice) → Mild (s .resting) (effect view a left s)
-unfolding effect
+pub mild : (view : View) (a : Order) (left : ℕ) (s : Slice) → Mild (s .resting) (meeting view a left s)
+unfolding meeting
 mild view a left s = go (prevents a (s .resting .order))
   where
     go : (i : Option StpInstruction) → Mild (s .resting) (by-instruction i view a left s)
@@ -188,7 +188,7 @@ module _ (rule : Rule) (view : View) (a : Order) (left : ℕ) (os : List OrderRe
   this = slice-on os (b .place) (b .facts .hidden)
 
   abbrev comes : Effect
-  comes = effect view a left this
+  comes = meeting view a left this
 
   is-next : (log : List Report) → next-slice rule view a (on-table left os log) ≡ Some this
   unfolding next-slice

@@ -22,7 +22,7 @@ slice-from o hidden = record { place = 0; resting = o; hidden = hidden }
 abbrev pub one-key : Order → Order → Bool
 one-key a b = eqb (a .broker .number) (b .broker .number) && (eqb (a .entry .key .number) (b .entry .key .number) && not (eqb (a .entry .key .number) 0))
 
--- What is left of the active order, and the resting one, are as the effect says, and its reports came onto the sheet, the oldest first.
+-- What is left of the active order, and the resting one, are as the meeting says, and its reports came onto the sheet, the oldest first.
 pub record Comes-to (f : Effect) (o : RestingOrder) (v : Volume) (o′ : RestingOrder) (sheet : List Report) (count : ℕ) (sheet′ : List Report) (count′ : ℕ) : Type 0 where
   pub left : v ≡ shares (f .left)
   pub resting : o′ ≡ holding (f .shown) (f .reserve) o

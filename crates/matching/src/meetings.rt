@@ -4,7 +4,7 @@ ghost use mathlib.Core.List.{[], _∷_};
 ghost use Prim.Native.Nat.{_+_, _<_, _≤_, _^_, min};
 ghost use denote.Ref.{name};
 ghost use Rattle.runs.specs.Slices.{volume-of, volume-in};
-ghost use Rattle.runs.specs.Meetings.{shares, trade-of, trading, stopped, smaller-out, active-out, resting-out, effect};
+ghost use Rattle.runs.specs.Meetings.{shares, trade-of, trading, stopped, smaller-out, active-out, resting-out, meeting};
 ghost use Rattle.runs.specs.Runs.{holding};
 ghost use Rattle.sheet.specs.Sheets.{Adds};
 ghost use Rattle.matching.specs.Meetings.{slice-from, one-key, Comes-to};
@@ -169,7 +169,7 @@ pub fn meet_resting(
 )
     requires fits { ⌜ volume-of (now resting) < 2 ^ 32 ⌝ }
     requires room { ⌜ now sheet .count + 2 < 2 ^ 64 ⌝ }
-    ensures comes { λ _. ⌜ Comes-to (effect (now (view .entry)) (now (active .entry)) (now (left .entry) .shares) (slice-from (now (resting .entry)) hidden)) (now (resting .entry)) (now (left .exit)) (now (resting .exit)) (now (now (sheet .entry) .reports)) (now (sheet .entry) .count) (now (now (sheet .exit) .reports)) (now (sheet .exit) .count) ⌝ }
+    ensures comes { λ _. ⌜ Comes-to (meeting (now (view .entry)) (now (active .entry)) (now (left .entry) .shares) (slice-from (now (resting .entry)) hidden)) (now (resting .entry)) (now (left .exit)) (now (resting .exit)) (now (now (sheet .entry) .reports)) (now (sheet .entry) .count) (now (now (sheet .exit) .reports)) (now (sheet .exit) .count) ⌝ }
     ensures lent { λ _. ⌜ name (now (sheet .exit) .reports) ≡ name (now (sheet .entry) .reports) ⌝ }
 {
     let own = have_one_key(active, &resting.order);

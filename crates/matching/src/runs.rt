@@ -5,7 +5,7 @@ ghost use mathlib.Core.List.{List, reverse, []};
 ghost use Prim.Native.Nat.{ℕ, _+_, _*_, _<_, _≤_, _^_};
 ghost use lib.ListN.{length, set};
 ghost use denote.Ref.{name};
-ghost use Rattle.runs.specs.Meetings.{shares, effect};
+ghost use Rattle.runs.specs.Meetings.{shares, meeting};
 ghost use Rattle.runs.specs.Runs.{in-play, run as run-of};
 ghost use Rattle.table.specs.Sequence.{record-at, resting-of};
 ghost use Rattle.table.specs.Noting.{Moved};
@@ -41,9 +41,9 @@ fn meet(
     requires within { ⌜ slice .place < length (now orders) ⌝ }
     requires rests { ⌜ May-rest (record-at (now orders) (slice .place)) ⌝ }
     requires room { ⌜ now sheet .count + 2 < 2 ^ 64 ⌝ }
-    ensures left { λ _. ⌜ now (left .exit) ≡ shares (effect (now (view .entry)) (now (active .entry)) (now (left .entry) .shares) (slice-on (now (orders .entry)) (slice .place) (slice .facts .hidden)) .left) ⌝ }
-    ensures table { λ _. ⌜ now (orders .exit) ≡ set (now (orders .entry)) (slice .place) (met (effect (now (view .entry)) (now (active .entry)) (now (left .entry) .shares) (slice-on (now (orders .entry)) (slice .place) (slice .facts .hidden))) (record-at (now (orders .entry)) (slice .place))) ⌝ }
-    ensures adds { λ _. ⌜ Adds (now (now (sheet .entry) .reports)) (now (sheet .entry) .count) (now (now (sheet .exit) .reports)) (now (sheet .exit) .count) (reverse (effect (now (view .entry)) (now (active .entry)) (now (left .entry) .shares) (slice-on (now (orders .entry)) (slice .place) (slice .facts .hidden)) .reports)) ⌝ }
+    ensures left { λ _. ⌜ now (left .exit) ≡ shares (meeting (now (view .entry)) (now (active .entry)) (now (left .entry) .shares) (slice-on (now (orders .entry)) (slice .place) (slice .facts .hidden)) .left) ⌝ }
+    ensures table { λ _. ⌜ now (orders .exit) ≡ set (now (orders .entry)) (slice .place) (met (meeting (now (view .entry)) (now (active .entry)) (now (left .entry) .shares) (slice-on (now (orders .entry)) (slice .place) (slice .facts .hidden))) (record-at (now (orders .entry)) (slice .place))) ⌝ }
+    ensures adds { λ _. ⌜ Adds (now (now (sheet .entry) .reports)) (now (sheet .entry) .count) (now (now (sheet .exit) .reports)) (now (sheet .exit) .count) (reverse (meeting (now (view .entry)) (now (active .entry)) (now (left .entry) .shares) (slice-on (now (orders .entry)) (slice .place) (slice .facts .hidden)) .reports)) ⌝ }
     ensures moved { λ _. ⌜ Moved (now (orders .entry)) (now (journal .entry)) (now (orders .exit)) (now (journal .exit)) ⌝ }
     ensures lent { λ _. ⌜ name (now (sheet .exit) .reports) ≡ name (now (sheet .entry) .reports) ⌝ }
 {

@@ -3,7 +3,7 @@ use mathlib.Core.List.{List}
 use Prim.Native.Nat.{ℕ, _+_, _-_, _≤_}
 use lib.ListN.{set}
 use Rattle.types.specs.declared.orders.RestingOrder.{RestingOrder}
-use Rattle.runs.specs.Meetings.{Effect, shares, effect}
+use Rattle.runs.specs.Meetings.{Effect, shares, meeting}
 use Rattle.runs.specs.Runs.{holding}
 use Rattle.table.specs.declared.records.OrderRecord.{OrderRecord}
 use Rattle.table.specs.Sequence.{record-at}
