@@ -1,16 +1,16 @@
 -- Where a record stands in the time sequence.
 use mathlib.Core.Path.{_≡_, refl, sym, ap, subst, _∙_}
-use mathlib.Core.Bool.{Bool, true, false, cond}
+use mathlib.Core.Bool.{true, cond}
 use mathlib.Core.List.{List, [], _∷_}
-use mathlib.Core.Logic.{_⊎_, inl, inr, ⊎-elim}
+use mathlib.Core.Logic.{inl, inr}
 use Prim.Native.Nat.{ℕ, zero, suc, _+_, _<_, _≤_}
 use native.Mathlib.Omega.{arith}
 use lib.Dec.{ltb}
-use lib.ListN.{length, getD, set}
+use lib.ListN.{length, set}
 use Rattle.std.proofs.shelf.Ways.{tells}
 use Rattle.table.specs.declared.records.OrderRecord.{OrderRecord}
-use Rattle.table.specs.Sequence.{blank-record, record-at, in-sequence, earlier, rank, Distinct}
-use Rattle.table.proofs.Turns.{Each, Climbs, On, one, one-yes, earlier-none, each-weaker, climbs, all-live, earlier-sequence, each-live, live-from, on-sequence, each-on, at-first, at-later}
+use Rattle.table.specs.Sequence.{record-at, in-sequence, earlier, rank, Distinct}
+use Rattle.table.proofs.Turns.{Each, Climbs, On, one, one-yes, earlier-none, each-weaker, climbs, all-live, earlier-sequence, each-live, live-from, on-sequence, at-first, at-later}
 
 pub one-le : (r : OrderRecord) (t : ℕ) → one r t ≤ 1
 one-le r t = grind (arith, tells)

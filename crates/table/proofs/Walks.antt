@@ -12,9 +12,9 @@ use Rattle.std.specs.declared.option.Option.the-variants.{Some, None}
 use Rattle.std.proofs.shelf.Tests.{cases-eq, cases-lt, cond-both, both-ways, ltb-true, ltb-false}
 use Rattle.table.specs.declared.records.OrderRecord.{OrderRecord}
 use Rattle.table.specs.declared.ends.Ends.{Ends}
-use Rattle.table.specs.Sequence.{record-at, in-sequence, resting-of, earlier, rank}
+use Rattle.table.specs.Sequence.{record-at, in-sequence, earlier}
 use Rattle.table.specs.Places.{Sound}
-use Rattle.table.specs.Walking.{Leads, First-from, Stands, earlier-of, sooner}
+use Rattle.table.specs.Walking.{First-from, Stands, earlier-of, sooner}
 use Rattle.table.proofs.Turns.{Each, Live, one, one-yes, one-no, each-live, live-from, all-live, earlier-sequence}
 use Rattle.table.proofs.Resting.{resting-length}
 

@@ -2,7 +2,7 @@ use mathlib.Core.Path.{refl, sym, subst, ap, _∙_}
 use mathlib.Core.List.{List, map, _++_, append-nil}
 use Prim.Native.Nat.{_<_}
 use native.Mathlib.Omega.{arith}
-use lib.ListN.{length, set, take, drop}
+use lib.ListN.{length, set, drop}
 use Rattle.std.proofs.shelf.Edits.{map-over-more}
 use Rattle.std.proofs.shelf.Lists.{getD-default, take-all, drop-all}
 use Rattle.table.specs.declared.records.OrderRecord.{OrderRecord}
