@@ -1,7 +1,7 @@
 -- The table lent out of the slice and come back.
 use mathlib.Core.Path.{_≡_, sym, ap, subst, _∙_}
 use mathlib.Core.List.{List, _++_}
-use Prim.Native.Nat.{ℕ, _+_, _-_, _≤_, _<_}
+use Prim.Native.Nat.{ℕ, _+_, _-_, _<_}
 use lib.ListN.{length, set, take, drop, length-set, length-drop, length-append}
 use lib.Seq.{length-take-le, take-at, drop-at, take-set-lt, drop-set-lt}
 use native.Mathlib.Omega.{arith}

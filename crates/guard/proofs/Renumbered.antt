@@ -1,17 +1,16 @@
 -- Ranks keep the sequence of the timestamps of live records, so the time list is the same.
-use mathlib.Core.Path.{_≡_, refl, sym, ap, subst, _∙_}
-use mathlib.Core.Logic.{_⊎_, inl, inr, ⊎-elim}
+use mathlib.Core.Path.{_≡_, refl, sym, ap, _∙_}
+use mathlib.Core.Logic.{⊎-elim}
 use mathlib.Core.Bool.{Bool, true, false, cond}
 use mathlib.Core.List.{List, [], _∷_, map}
-use Prim.Native.Nat.{ℕ, zero, suc, _+_, _≤_, _<_}
+use Prim.Native.Nat.{ℕ, zero, suc, _<_}
 use lib.Dec.{ltb}
-use lib.ListN.{length, getD, length-map}
+use lib.ListN.{length, length-map}
 use native.Mathlib.Omega.{arith}
-use Rattle.std.proofs.shelf.Tests.{lt-ltb, le-ltb, cases-lt, cond-both}
-use Rattle.types.specs.declared.orders.RestingOrder.{RestingOrder}
+use Rattle.std.proofs.shelf.Tests.{lt-ltb, le-ltb, cases-lt}
 use Rattle.table.specs.declared.records.OrderRecord.{OrderRecord}
 use Rattle.table.specs.declared.ends.Ends.{Ends}
-use Rattle.table.specs.Sequence.{blank-record, record-at, stamped, in-turn, in-sequence, resting-of, earlier, rank, Distinct, Older, Sequenced}
+use Rattle.table.specs.Sequence.{record-at, in-turn, in-sequence, resting-of, earlier, rank, Sequenced}
 use Rattle.table.specs.Places.{Sound}
 use Rattle.table.proofs.Turns.{Live, live-from}
 use Rattle.table.proofs.Ranks.{earlier-mono, earlier-strict, at-rank}

@@ -9,7 +9,7 @@ use lib.ListN.{length, set}
 use Rattle.std.proofs.shelf.Lists.{getD-set-same, getD-set-other, length-set}
 use Rattle.std.proofs.shelf.Tests.{cases-eq}
 use Rattle.table.specs.declared.records.OrderRecord.{OrderRecord}
-use Rattle.table.specs.Sequence.{blank-record, record-at, rank, earlier, Distinct, Older, Sequenced}
+use Rattle.table.specs.Sequence.{blank-record, record-at, rank, earlier, Sequenced}
 use Rattle.table.proofs.Ranks.{earlier-same}
 
 module _ (os : List OrderRecord) (i : ℕ) (o : OrderRecord) (within : i < length os) where

@@ -6,3 +6,5 @@ pub mod Patching
 pub mod Noting
 pub mod Places
 pub mod Props
+pub mod Walks
+pub mod Cleared

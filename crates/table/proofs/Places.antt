@@ -1,7 +1,7 @@
 -- The ends of a table after a place is taken or set free.
 use mathlib.Core.Path.{_≡_, refl, sym, ap, subst, _∙_}
 use mathlib.Core.Logic.{_⊎_, inl, inr, ⊎-elim}
-use mathlib.Core.Bool.{Bool, true, false, cond}
+use mathlib.Core.Bool.{true, false}
 use mathlib.Core.List.{List, [], _∷_}
 use Prim.Native.Nat.{ℕ, zero, suc, _+_, _≤_, _<_}
 use lib.Dec.{ltb}
@@ -13,7 +13,7 @@ use Rattle.std.specs.declared.option.Option.the-variants.{Some, None}
 use Rattle.std.proofs.shelf.Tests.{lt-ltb, le-ltb, cases-lt, both-ways, cond-both, cond-true, cond-false}
 use Rattle.table.specs.declared.records.OrderRecord.{OrderRecord}
 use Rattle.table.specs.declared.ends.Ends.{Ends}
-use Rattle.table.specs.Sequence.{record-at, record-of, freed, stamped, in-turn, in-sequence, resting-of, Sequenced}
+use Rattle.table.specs.Sequence.{record-at, in-turn, in-sequence, resting-of, Sequenced}
 use Rattle.table.specs.Places.{Sound, First, Found}
 use Rattle.table.proofs.Kept.{places, sequenced-same, sequenced-gone, sequenced-new}
 use Rattle.table.proofs.Resting.{resting-length}

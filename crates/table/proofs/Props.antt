@@ -1,5 +1,4 @@
 -- What holds of a table can be shown in one way at most, so that it comes out of a ghost field again.
-use mathlib.Core.Path.{_≡_}
 use mathlib.Core.Bool.{Bool}
 use mathlib.Core.List.{List}
 use mathlib.Core.HLevel.{Π-prop, →-prop}

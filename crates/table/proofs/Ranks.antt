@@ -1,16 +1,16 @@
 -- Where a record stands in the time sequence.
 use mathlib.Core.Path.{_≡_, refl, sym, ap, subst, _∙_}
-use mathlib.Core.Bool.{Bool, true, false, cond}
+use mathlib.Core.Bool.{true, cond}
 use mathlib.Core.List.{List, [], _∷_}
-use mathlib.Core.Logic.{_⊎_, inl, inr, ⊎-elim}
+use mathlib.Core.Logic.{inl, inr}
 use Prim.Native.Nat.{ℕ, zero, suc, _+_, _<_, _≤_}
 use native.Mathlib.Omega.{arith}
 use lib.Dec.{ltb}
-use lib.ListN.{length, getD, set}
+use lib.ListN.{length, set}
 use Rattle.std.proofs.shelf.Ways.{tells}
 use Rattle.table.specs.declared.records.OrderRecord.{OrderRecord}
-use Rattle.table.specs.Sequence.{blank-record, record-at, in-sequence, earlier, rank, Distinct}
-use Rattle.table.proofs.Turns.{Each, Climbs, On, one, climbs, all-live, earlier-sequence, each-live, live-from, on-sequence, each-on, at-first, at-later}
+use Rattle.table.specs.Sequence.{record-at, in-sequence, earlier, rank, Distinct}
+use Rattle.table.proofs.Turns.{Each, Climbs, On, one, one-yes, earlier-none, each-weaker, climbs, all-live, earlier-sequence, each-live, live-from, on-sequence, at-first, at-later}
 
 pub one-le : (r : OrderRecord) (t : ℕ) → one r t ≤ 1
 one-le r t = grind (arith, tells)
@@ -45,17 +45,30 @@ rank-later os i j = earlier-mono os (record-at os i .time) (record-at os j .time
 pub rank-first : (os : List OrderRecord) (i j : ℕ) → i < length os → record-at os i .live ≡ true → record-at os i .time < record-at os j .time → rank os i < rank os j
 rank-first os i j = earlier-strict os i (record-at os j .time)
 
--- The place of a record of a climbing list is the count of the earlier ones.
+each-at : (P : OrderRecord → Type 0) (l : List OrderRecord) (k : ℕ) → Each P l → k < length l → P (record-at l k)
+each-at P [] k h lt = absurd (omega arith)
+each-at P (x ∷ l) zero h lt = h .0
+each-at P (x ∷ l) (suc k) h lt = each-at P l k (h .1) (omega arith)
+
+-- The place of a record of a climbing list is the count of the earlier ones, ..
 at-count : (l : List OrderRecord) (k : ℕ) → Climbs l → Each (λ x. x .live ≡ true) l → k < length l → earlier l (record-at l k .time) ≡ k
 at-count [] k up on lt = absurd (omega arith)
 at-count (x ∷ l) zero up on lt = at-first x l (x .time) refl (up .0)
 at-count (x ∷ l) (suc k) up on lt =
     at-later x l (record-at l k .time) (on .0) (each-at (λ y. x .time < y .time) l k (up .0) (omega arith)) ∙ ap suc (at-count l k (up .1) (on .1) (omega arith))
-  where
-    each-at : (P : OrderRecord → Type 0) (l : List OrderRecord) (k : ℕ) → Each P l → k < length l → P (record-at l k)
-    each-at P [] k h lt = absurd (omega arith)
-    each-at P (x ∷ l) zero h lt = h .0
-    each-at P (x ∷ l) (suc k) h lt = each-at P l k (h .1) (omega arith)
+
+-- .. and right behind it there is one more.
+count-next : (l : List OrderRecord) (k : ℕ) → Climbs l → Each (λ x. x .live ≡ true) l → k < length l → earlier l (record-at l k .time + 1) ≡ k + 1
+count-next [] k up on lt = absurd (omega arith)
+count-next (x ∷ l) zero up on lt =
+    let a = one-yes x (x .time + 1) (on .0) (omega arith) in
+    let b = earlier-none l (x .time + 1) (each-weaker (λ y. x .time < y .time) (λ y. x .time + 1 ≤ y .time) (λ y h. omega arith) l (up .0)) in
+    omega arith
+count-next (x ∷ l) (suc k) up on lt =
+    let a = each-at (λ y. x .time < y .time) l k (up .0) (omega arith) in
+    let b = one-yes x (record-at l k .time + 1) (on .0) (omega arith) in
+    let c = count-next l k (up .1) (on .1) (omega arith) in
+    omega arith
 
 on-place : (l : List OrderRecord) (y : OrderRecord) → On y l → (k : ℕ) × (k < length l) × (record-at l k ≡ y)
 on-place [] y m = absurd m
@@ -70,6 +83,15 @@ module _ (os : List OrderRecord) (apart : Distinct os) where
       let p = on-place s (record-at os i) (on-sequence os i within on) in
       let is : p .0 ≡ rank os i = sym (at-count s (p .0) (climbs os apart) (all-live os) (p .1)) ∙ earlier-sequence os (record-at s (p .0) .time) ∙ ap (λ (x : OrderRecord). earlier os (x .time)) (p .2) in
       (subst (λ k. k < length s) is (p .1), subst (λ k. record-at s k ≡ record-at os i) is (p .2))
+
+  -- Right behind a live record the count of the earlier ones is one more.
+  pub earlier-next : (i : ℕ) → i < length os → record-at os i .live ≡ true → earlier os (record-at os i .time + 1) ≡ rank os i + 1
+  earlier-next i within on =
+      let s = in-sequence os in
+      let p = at-rank i within on in
+      sym (earlier-sequence os (record-at os i .time + 1))
+      ∙ ap (λ (x : OrderRecord). earlier s (x .time + 1)) (sym (p .1))
+      ∙ count-next s (rank os i) (climbs os apart) (all-live os) (p .0)
 
   -- x is the live record at some place
   abbrev Held : OrderRecord → Type 0

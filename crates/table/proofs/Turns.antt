@@ -6,7 +6,7 @@ use mathlib.Core.Logic.{_⊎_, inl, inr, ⊎-elim}
 use Prim.Native.Nat.{ℕ, zero, suc, _+_, _<_, _≤_}
 use native.Mathlib.Omega.{arith}
 use lib.Dec.{ltb, eqb}
-use lib.ListN.{length, getD, set, take, drop}
+use lib.ListN.{length, set}
 use Rattle.std.specs.shelf.Lists.{kept-by, removed}
 use Rattle.std.proofs.shelf.Lists.{set-set, getD-set-same, length-set}
 use Rattle.std.proofs.shelf.Tests.{lt-ltb, le-ltb, ltb-true, ltb-false, eq-eqb, ne-eqb, cond-true, cond-false, cond-both, eqb-true, both-ways}
@@ -40,7 +40,7 @@ swap r x = cond (eqb (x .time) (r .time)) r x
 abbrev swapped : OrderRecord → List OrderRecord → List OrderRecord
 swapped r = map (swap r)
 
-each-weaker : (P Q : OrderRecord → Type 0) → ((x : OrderRecord) → P x → Q x) → (l : List OrderRecord) → Each P l → Each Q l
+pub each-weaker : (P Q : OrderRecord → Type 0) → ((x : OrderRecord) → P x → Q x) → (l : List OrderRecord) → Each P l → Each Q l
 each-weaker P Q w [] h = tt
 each-weaker P Q w (x ∷ l) h = (w x (h .0), each-weaker P Q w l (h .1))
 
@@ -269,10 +269,10 @@ earlier-sequence (o ∷ os) t =
 pub one-yes : (r : OrderRecord) (t : ℕ) → r .live ≡ true → r .time < t → one r t ≡ 1
 one-yes r t on lt = cond-true _ _ _ on ∙ cond-true _ _ _ (lt-ltb (r .time) t lt)
 
-one-no : (r : OrderRecord) (t : ℕ) → t ≤ r .time → one r t ≡ 0
+pub one-no : (r : OrderRecord) (t : ℕ) → t ≤ r .time → one r t ≡ 0
 one-no r t le = cond-both (r .live) (cond (ltb (r .time) t) 1 0) 0 (λ n. n ≡ 0) (λ e. cond-false _ _ _ (le-ltb (r .time) t le)) (λ e. refl)
 
-earlier-none : (l : List OrderRecord) (t : ℕ) → Each (λ y. t ≤ y .time) l → earlier l t ≡ 0
+pub earlier-none : (l : List OrderRecord) (t : ℕ) → Each (λ y. t ≤ y .time) l → earlier l t ≡ 0
 earlier-none [] t h = refl
 earlier-none (x ∷ l) t h = let a = one-no x t (h .0) in let b = earlier-none l t (h .1) in omega arith
 

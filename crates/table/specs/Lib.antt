@@ -1,3 +1,4 @@
 pub mod Sequence
 pub mod Noting
 pub mod Places
+pub mod Walking

@@ -1,5 +1,4 @@
 //! The journal of the places where the table was written to since its spare copy was brought up to date.
-ghost use mathlib.Core.Path.{_≡_};
 ghost use Prim.Native.Nat.{ℕ, _<_, _≤_};
 ghost use Rattle.table.specs.Noting.{Follows};
 

@@ -5,7 +5,7 @@ mod records;
 
 ghost use mathlib.Core.Path.{_≡_};
 ghost use mathlib.Core.Bool.{true, false};
-ghost use mathlib.Core.List.{_++_, _∷_, []};
+ghost use mathlib.Core.List.{_++_, _∷_, [], map};
 ghost use Prim.Native.Nat.{ℕ, _+_, _<_, _≤_, _^_};
 ghost use lib.Dec.{ltb};
 ghost use lib.ListN.{length, set};
@@ -15,6 +15,7 @@ ghost use Rattle.std.specs.shelf.Lists.{removed};
 ghost use Rattle.table.specs.Sequence.{record-at, record-of, freed, stamped, resting-of, rank};
 ghost use Rattle.table.specs.Noting.{Moved};
 ghost use Rattle.table.specs.Places.{Sound, Found};
+ghost use Rattle.table.specs.Walking.{First-from, Stands, earlier-of, sooner};
 pub use ends::Ends;
 pub use journals::Journal;
 pub use records::OrderRecord;
@@ -151,4 +152,67 @@ pub fn to_end(orders: &mut [OrderRecord], journal: &mut Journal, ends: &mut Ends
     let value = orders[i].stamped(ends.next);
     write(orders, journal, i, value);
     ends.next += 1;
+}
+
+fn earlier_of(orders: &[OrderRecord], i: usize, best: Option<usize>) -> Option<usize>
+    requires within { ⌜ i < length (now orders) ⌝ }
+    requires stands { ⌜ Stands (now orders) best ⌝ }
+    ensures { λ r. ⌜ r ≡ earlier-of (now (orders .entry)) i best ⌝ }
+{
+    match best {
+        Some(b) => {
+            if orders[i].time < orders[b].time {
+                Some(i)
+            } else {
+                Some(b)
+            }
+        }
+        None => Some(i),
+    }
+}
+
+fn sooner(orders: &[OrderRecord], time: u64, i: usize, best: Option<usize>) -> Option<usize>
+    requires within { ⌜ i < length (now orders) ⌝ }
+    requires stands { ⌜ Stands (now orders) best ⌝ }
+    ensures { λ r. ⌜ r ≡ sooner (now (orders .entry)) time i best ⌝ }
+{
+    if orders[i].live {
+        if orders[i].time < time {
+            best
+        } else {
+            earlier_of(orders, i, best)
+        }
+    } else {
+        best
+    }
+}
+
+/// The place of the first order on the time list whose timestamp is not earlier than `time`.
+pub fn first_from(orders: &[OrderRecord], ends: Ends, time: u64) -> Option<usize>
+    requires { ⌜ Sound (now orders) ends ⌝ }
+    ensures { λ r. ⌜ First-from (now (orders .entry)) time r ⌝ }
+{
+    let mut best = None;
+    for i in 0..ends.high {
+        best = sooner(orders, time, i, best);
+    }
+    best
+}
+
+/// Sets every place free.
+pub fn clear(orders: &mut [OrderRecord]) -> Ends
+    requires { ⌜ length (now orders) ≤ 65536 ⌝ }
+    ensures table { λ _. ⌜ now (orders .exit) ≡ map freed (now (orders .entry)) ⌝ }
+    ensures list { λ _. ⌜ resting-of (now (orders .exit)) ≡ [] ⌝ }
+    ensures sound { λ r. ⌜ Sound (now (orders .exit)) r ⌝ }
+    ensures times { λ r. ⌜ r .next ≡ 0 ⌝ }
+{
+    for i in 0..orders.len() {
+        orders[i] = orders[i].freed();
+    }
+    Ends {
+        low: 0,
+        high: 0,
+        next: 0,
+    }
 }
