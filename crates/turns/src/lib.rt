@@ -1,0 +1,10 @@
+//! Orders of the table in their turn: picked in time sequence, moved to the end, cancelled.
+mod collecting;
+mod picks;
+
+pub use collecting::collect;
+pub use picks::EveryOrder;
+pub use picks::EveryOrderPicks;
+pub use picks::Picks;
+pub use picks::Repriced;
+pub use picks::RepricedPicks;
