@@ -1,1 +1,2 @@
-
+pub mod Inserting
+pub mod Chosen
