@@ -1,2 +1,3 @@
 pub mod Inserting
 pub mod Chosen
+pub mod Renewing

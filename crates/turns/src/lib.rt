@@ -1,8 +1,10 @@
 //! Orders of the table in their turn: picked in time sequence, moved to the end, cancelled.
 mod collecting;
+mod moving;
 mod picks;
 
 pub use collecting::collect;
+pub use moving::move_to_end;
 pub use picks::EveryOrder;
 pub use picks::EveryOrderPicks;
 pub use picks::Picks;
