@@ -17,7 +17,7 @@ use Rattle.table.specs.declared.records.OrderRecord.{OrderRecord}
 use Rattle.table.specs.Sequence.{blank-record, record-at, stamped, in-sequence, resting-of, rank, Distinct, Older}
 use Rattle.table.proofs.Turns.{Each, Climbs, climbs, each-live, live-from, renewed}
 use Rattle.table.proofs.Ranks.{at-rank}
-use Rattle.turns.specs.Turns.{records-at, passes, Turns, Restamped}
+use Rattle.turns.specs.Turns.{records-at, passes, Turns, Rewritten}
 use Rattle.turns.proofs.Chosen.{each-at, kept-orders}
 
 abbrev pub order-of : OrderRecord → RestingOrder
@@ -138,23 +138,23 @@ turns-apart test os ts n le t j k lt less e =
     let same : record-at os (getD (take n ts) j 0) .time ≡ record-at os (getD (take n ts) k 0) .time = ap (λ (i : ℕ). record-at os i .time) (at j (omega arith) ∙ e ∙ sym (at k less)) in
     omega arith
 
-module _ (next : ℕ) (ts : List ℕ) (start : List OrderRecord) where
-  pub restamped-none : Restamped next 0 ts start start
-  restamped-none = record { each = λ j lt. absurd (omega arith); others = λ k h. refl }
+module _ (f : ℕ → OrderRecord → OrderRecord) (ts : List ℕ) (start : List OrderRecord) where
+  pub rewritten-none : Rewritten f 0 ts start start
+  rewritten-none = record { each = λ j lt. absurd (omega arith); others = λ k h. refl }
 
   -- A place further on is as it was.
-  pub untouched : (os : List OrderRecord) (n : ℕ) → ((j : ℕ) → j < n → getD ts j 0 ≡ getD ts n 0 → ⊥) → Restamped next n ts start os → record-at os (getD ts n 0) ≡ record-at start (getD ts n 0)
+  pub untouched : (os : List OrderRecord) (n : ℕ) → ((j : ℕ) → j < n → getD ts j 0 ≡ getD ts n 0 → ⊥) → Rewritten f n ts start os → record-at os (getD ts n 0) ≡ record-at start (getD ts n 0)
   untouched os n apart h = h .others (getD ts n 0) apart
 
-  pub restamped-more : (os : List OrderRecord) (n : ℕ) → ((j : ℕ) → j < n → getD ts j 0 ≡ getD ts n 0 → ⊥) → getD ts n 0 < length os
-      → Restamped next n ts start os → Restamped next (n + 1) ts start (set os (getD ts n 0) (stamped (next + n) (record-at os (getD ts n 0))))
-  restamped-more os n apart within h =
+  pub rewritten-more : (os : List OrderRecord) (n : ℕ) → ((j : ℕ) → j < n → getD ts j 0 ≡ getD ts n 0 → ⊥) → getD ts n 0 < length os
+      → Rewritten f n ts start os → Rewritten f (n + 1) ts start (set os (getD ts n 0) (f n (record-at os (getD ts n 0))))
+  rewritten-more os n apart within h =
       let p = getD ts n 0 in
-      let o = stamped (next + n) (record-at os p) in
+      let o = f n (record-at os p) in
       record {
         each = λ j lt. ⊎-elim
-            (λ e. subst (λ (i : ℕ). record-at (set os p o) (getD ts i 0) ≡ stamped (next + i) (record-at start (getD ts i 0))) (sym e)
-            (getD-set-same os p o blank-record within ∙ ap (stamped (next + n)) (untouched os n apart h)))
+            (λ e. subst (λ (i : ℕ). record-at (set os p o) (getD ts i 0) ≡ f i (record-at start (getD ts i 0))) (sym e)
+            (getD-set-same os p o blank-record within ∙ ap (f n) (untouched os n apart h)))
             (λ ne. getD-set-other os p (getD ts j 0) o blank-record (apart j (omega (arith, ne))) ∙ h .each j (omega (arith, ne)))
             (cases-eq j n);
         others = λ k out. getD-set-other os p k o blank-record (λ e. out n (omega arith) (sym e)) ∙ h .others k (λ j lt. out j (omega arith));

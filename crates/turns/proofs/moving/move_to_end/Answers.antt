@@ -8,7 +8,7 @@ use Rattle.table.specs.declared.records.OrderRecord.{OrderRecord}
 use Rattle.table.specs.Sequence.{record-at, stamped}
 use Rattle.table.proofs.Noting.{moved-none, moved-both}
 use Rattle.turns.specs.Turns.{Restamped}
-use Rattle.turns.proofs.Renewing.{Going, started, went, arrived, Turn, turn-at, no-turn-left, restamped-none, restamped-more, untouched}
+use Rattle.turns.proofs.Renewing.{Going, started, went, arrived, Turn, turn-at, no-turn-left, rewritten-none, rewritten-more, untouched}
 use Rattle.turns.proofs.moving.move_to_end.Needs as need
 
 pub loop-k-holds : need.loop-k-holds
@@ -21,7 +21,7 @@ loop-k-holds g c =
       p .sound,
       omega arith,
       moved-none os (c .args .journal .now),
-      restamped-none next ts os,
+      rewritten-none (λ j. stamped (next + j)) ts os,
       started (g .P·Picks .picked (c .args .picks .now)) next os (take (c .collect-count .result) ts) (p .sound .sequenced .older) (c .collect-count .ensures .turns),
     )
 
@@ -36,7 +36,7 @@ to-end-requires g c κs =
     let i = c .loop-k .inv in
     let long : n ≤ length ts = omega (arith, c .pre .room, c .collect-count .ensures .count) in
     let t : Turn start ts n k = turn-at (g .P·Picks .picked (c .args .picks .now)) start ts n k long (omega arith) (c .collect-count .ensures .turns) in
-    let same = untouched next ts start os k (t .apart) (i .3) in
+    let same = untouched (λ j. stamped (next + j)) ts start os k (t .apart) (i .3) in
     record {
       sound = i .0;
       within = omega (arith, t .within, c .loop-k .kept);
@@ -57,7 +57,7 @@ loop-k-again g c =
     let test = g .P·Picks .picked (c .args .picks .now) in
     let long : n ≤ length ts = omega (arith, c .pre .room, c .collect-count .ensures .count) in
     let t : Turn start ts n k = turn-at test start ts n k long (omega arith) (c .collect-count .ensures .turns) in
-    let same : record-at os p ≡ record-at start p = untouched next ts start os k (t .apart) (i .3) in
+    let same : record-at os p ≡ record-at start p = untouched (λ j. stamped (next + j)) ts start os k (t .apart) (i .3) in
     let within : p < length os = omega (arith, t .within, c .loop-k .kept) in
     let live : record-at os p .live ≡ true = subst (λ (x : OrderRecord). x .live ≡ true) (sym same) (t .live) in
     let e = c .to-end .ensures in
@@ -67,7 +67,7 @@ loop-k-again g c =
       e .sound,
       omega (arith, e .times, i .1),
       moved-both start os (c .to-end .last .orders) (c .args .journal .now) (c .loop-k .journal) (c .to-end .last .journal) (sym (c .loop-k .kept .orders)) (i .2) (e .moved),
-      subst (Restamped next (k + 1) ts start) (ap (λ (m : ℕ). set os p (stamped m (record-at os p))) (sym (i .1)) ∙ sym (e .table)) (restamped-more next ts start os k (t .apart) within (i .3)),
+      subst (Restamped next (k + 1) ts start) (ap (λ (m : ℕ). set os p (stamped m (record-at os p))) (sym (i .1)) ∙ sym (e .table)) (rewritten-more (λ j. stamped (next + j)) ts start os k (t .apart) within (i .3)),
       subst (λ (o : List OrderRecord). Going test next start o (drop (k + 1) (take n ts))) (sym (e .table))
       (went test next start os p (drop (k + 1) (take n ts)) (subst (Going test next start os) (t .next) (i .4)) within live (i .0 .sequenced .distinct) same now late (i .0 .sequenced .older)),
     )
