@@ -129,9 +129,6 @@ module _ (n : ℕ) (d : RestingOrder) where
       )
 
 module _ (os : List OrderRecord) (p : ℕ) (within : p < length os) (live : record-at os p .live ≡ true) (apart : Distinct os) (numbers : Numbered os) where
-  number : ℕ
-  number = record-at os p .resting .order .number .number
-
   -- The order at a place is the one of its number.
   pub by-number : (removed (resting-of os) (rank os p) ≡ kept-by (λ o. not (has-number (record-at os p .resting .order .number .number) o)) (resting-of os))
       × (rests (record-at os p .resting .order .number .number) (resting-of os) ≡ volume-of (record-at os p .resting))
