@@ -1,6 +1,6 @@
 -- The picked orders of a table in time sequence, place after place.
 use mathlib.Core.Path.{_≡_, refl, sym, ap, subst, _∙_}
-use mathlib.Core.Logic.{_⊎_, inl, inr, ⊎-elim}
+use mathlib.Core.Logic.{_⊎_, ⊎-elim}
 use mathlib.Core.Bool.{Bool, true, false, cond}
 use mathlib.Core.List.{List, [], _∷_, _++_, map}
 use Prim.Native.Nat.{ℕ, zero, suc, _+_, _<_, _≤_}
@@ -163,13 +163,13 @@ chosen-all q os n free = ap (kept-by q) (free-beyond os n free)
 
 -- Places of live records.
 
+pub free-past : (os : List OrderRecord) (i : ℕ) → length os ≤ i → record-at os i .live ≡ false
+free-past [] i le = refl
+free-past (x ∷ os) zero le = absurd (omega arith)
+free-past (x ∷ os) (suc i) le = free-past os i (omega arith)
+
 live-within : (os : List OrderRecord) (i : ℕ) → record-at os i .live ≡ true → i < length os
-live-within os i on = ⊎-elim (λ lt. lt) (λ le. absurd (both-ways (record-at os i .live) (past os i le) on)) (cases-lt i (length os))
-  where
-    past : (os : List OrderRecord) (i : ℕ) → length os ≤ i → record-at os i .live ≡ false
-    past [] i le = refl
-    past (x ∷ os) zero le = absurd (omega arith)
-    past (x ∷ os) (suc i) le = past os i (omega arith)
+live-within os i on = ⊎-elim (λ lt. lt) (λ le. absurd (both-ways (record-at os i .live) (free-past os i le) on)) (cases-lt i (length os))
 
 module _ (os : List OrderRecord) (ps : List ℕ) (l : List OrderRecord) (same : records-at os ps ≡ l) where
   at-turn : (k : ℕ) → k < length ps → (record-at l k ≡ record-at os (getD ps k 0)) × (k < length l)
@@ -188,7 +188,7 @@ module _ (os : List OrderRecord) (ps : List ℕ) (l : List OrderRecord) (same : 
       let h = climbing-from l up j k lt (b .1) in
       omega (arith, h, ap (λ (x : OrderRecord). x .time) (a .0), ap (λ (x : OrderRecord). x .time) (b .0))
 
-abbrev order-of : OrderRecord → RestingOrder
+abbrev pub order-of : OrderRecord → RestingOrder
 order-of r = r .resting
 
 pub kept-orders : (test : RestingOrder → Bool) (l : List OrderRecord) → map order-of (kept-by (passes test) l) ≡ kept-by test (map order-of l)

@@ -1,20 +1,20 @@
 -- Orders leave the table one after the other, each with its report.
 use mathlib.Core.Path.{_≡_, refl, sym, ap, subst, _∙_}
-use mathlib.Core.Logic.{_⊎_, inl, inr, ⊎-elim}
-use mathlib.Core.Bool.{Bool, true, false, cond, not}
+use mathlib.Core.Logic.{_⊎_, ⊎-elim}
+use mathlib.Core.Bool.{Bool, true, false, not}
 use mathlib.Core.List.{List, [], _∷_, _++_, map}
-use Prim.Native.Nat.{ℕ, zero, suc, _+_, _<_, _≤_}
+use Prim.Native.Nat.{ℕ, zero, suc, _+_, _<_}
 use native.Mathlib.Omega.{arith}
 use native.Mathlib.Nat.{add-zero, zero-add}
 use lib.Dec.{eqb}
-use lib.ListN.{length, getD, set, take, drop}
+use lib.ListN.{length, getD, set, take}
 use Rattle.std.specs.shelf.Lists.{kept-by, removed}
-use Rattle.std.proofs.shelf.Lists.{take-more, map-append, getD-set-same, getD-set-other}
-use Rattle.std.proofs.shelf.Tests.{eq-eqb, ne-eqb, cond-true, cond-false, cases-lt, cases-eq, cases-bool}
+use Rattle.std.proofs.shelf.Lists.{take-more, map-append}
+use Rattle.std.proofs.shelf.Tests.{eq-eqb, ne-eqb, cond-true, cond-false, cases-lt, cases-bool}
 use Rattle.types.specs.declared.orders.RestingOrder.{RestingOrder}
 use Rattle.types.specs.declared.reports.Report.{Report}
 use Rattle.runs.specs.Slices.{volume-of}
-use Rattle.rules.specs.Accounts.{on, rests}
+use Rattle.rules.specs.Accounts.{rests}
 use Rattle.rules.specs.Calls.{has-number, cancelled-at-close}
 use Rattle.table.specs.declared.records.OrderRecord.{OrderRecord}
 use Rattle.table.specs.Sequence.{blank-record, record-at, freed, in-sequence, resting-of, rank, Distinct}
@@ -23,8 +23,10 @@ use Rattle.table.proofs.Ranks.{at-rank}
 use Rattle.table.proofs.Kept.{places}
 use Rattle.table.proofs.Resting as resting
 use Rattle.turns.specs.Turns.{records-at, passes, Turns, All-freed, Numbered}
-use Rattle.turns.proofs.Renewing.{order-of, removed-first}
+use Rattle.turns.proofs.Chosen.{order-of, free-past}
+use Rattle.turns.proofs.Renewing.{removed-first}
 
+-- Every order passes.
 abbrev pub every : RestingOrder → Bool
 every o = true
 
@@ -53,7 +55,7 @@ pub no-orders : (os : List OrderRecord) → in-sequence os ≡ [] → resting-of
 unfolding resting-of
 no-orders os e = ap (map order-of) e
 
--- But for the place in use all is as it was.
+-- But for which places are in use all is as it was.
 abbrev pub Alike : List OrderRecord → List OrderRecord → Type 0
 Alike start os = (k : ℕ) → freed (record-at os k) ≡ freed (record-at start k)
 
@@ -66,16 +68,11 @@ all-freed start os e h k = sym (free (record-at os k) (dead k)) ∙ h k
     free : (r : OrderRecord) → r .live ≡ false → freed r ≡ r
     free r out = λ j. record { live = sym out j; time = r .time; drawn = r .drawn; resting = r .resting }
 
-    past : (os : List OrderRecord) (i : ℕ) → length os ≤ i → record-at os i .live ≡ false
-    past [] i le = refl
-    past (x ∷ os) zero le = absurd (omega arith)
-    past (x ∷ os) (suc i) le = past os i (omega arith)
-
     dead : (k : ℕ) → record-at os k .live ≡ false
     dead k =
         ⊎-elim
         (λ lt. ⊎-elim (λ live. absurd (subst (On (record-at os k)) e (on-sequence os k lt live))) (λ out. out) (cases-bool (record-at os k .live)))
-        (λ le. past os k le)
+        (λ le. free-past os k le)
         (cases-lt k (length os))
 
 -- The report of the order at a place.
@@ -103,8 +100,7 @@ module _ (n : ℕ) (d : RestingOrder) where
   none-of [] h = (refl, refl)
   none-of (x ∷ l) h =
       let rest = none-of l (λ j lt. h (suc j) (omega arith)) in
-      let out : eqb n (x .order .number .number) ≡ false = ne-eqb n (x .order .number .number) (h 0 (omega arith)) in
-      (
+      let out : eqb n (x .order .number .number) ≡ false = ne-eqb n (x .order .number .number) (h 0 (omega arith)) in (
         ap (λ m. x ∷ m) (rest .0) ∙ sym (cond-true _ _ _ (ap not out)),
         (λ j. cond-false _ (volume-of x) 0 out j + rest .1 j),
       )
@@ -115,15 +111,13 @@ module _ (n : ℕ) (d : RestingOrder) where
   one-of [] k lt e h = absurd (omega arith)
   one-of (x ∷ l) zero lt e h =
       let rest = none-of l (λ j less. h (suc j) (omega arith) (λ z. omega arith)) in
-      let is : eqb n (x .order .number .number) ≡ true = eq-eqb n (x .order .number .number) e in
-      (
+      let is : eqb n (x .order .number .number) ≡ true = eq-eqb n (x .order .number .number) e in (
         rest .0 ∙ sym (cond-false _ _ _ (ap not is)),
         (λ j. cond-true _ (volume-of x) 0 is j + rest .1 j) ∙ add-zero (volume-of x),
       )
   one-of (x ∷ l) (suc k) lt e h =
       let rest = one-of l k (omega arith) e (λ j less ne. h (suc j) (omega arith) (λ z. ne (omega arith))) in
-      let out : eqb n (x .order .number .number) ≡ false = ne-eqb n (x .order .number .number) (h 0 (omega arith) (λ z. omega arith)) in
-      (
+      let out : eqb n (x .order .number .number) ≡ false = ne-eqb n (x .order .number .number) (h 0 (omega arith) (λ z. omega arith)) in (
         ap (λ m. x ∷ m) (rest .0) ∙ sym (cond-true _ _ _ (ap not out)),
         (λ j. cond-false _ (volume-of x) 0 out j + rest .1 j) ∙ zero-add _,
       )

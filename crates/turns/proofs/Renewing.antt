@@ -1,6 +1,6 @@
 -- The orders whose turn it is go to the end, one after the other.
 use mathlib.Core.Path.{_≡_, refl, sym, ap, subst, _∙_}
-use mathlib.Core.Logic.{_⊎_, inl, inr, ⊎-elim}
+use mathlib.Core.Logic.{_⊎_, ⊎-elim}
 use mathlib.Core.Bool.{Bool, true, false, cond, not, _&&_}
 use mathlib.Core.List.{List, [], _∷_, _++_, map, append-assoc, append-nil}
 use Prim.Native.Nat.{ℕ, zero, suc, _+_, _<_, _≤_}
@@ -10,7 +10,7 @@ use lib.ListN.{length, getD, set, take, drop}
 use Rattle.std.specs.shelf.Lists.{kept-by, removed}
 use Rattle.std.proofs.shelf.Lists.{getD-take, length-take-le, drop-more, map-append, getD-set-same, getD-set-other}
 use Rattle.std.proofs.shelf.Elements.{kept-by-append}
-use Rattle.std.proofs.shelf.Tests.{lt-ltb, le-ltb, cond-true, cond-false, cases-lt, cases-eq}
+use Rattle.std.proofs.shelf.Tests.{lt-ltb, le-ltb, cond-true, cond-false, cases-eq}
 use Rattle.types.specs.declared.orders.RestingOrder.{RestingOrder}
 use Rattle.rules.specs.Requotes.{to-end}
 use Rattle.table.specs.declared.records.OrderRecord.{OrderRecord}
@@ -18,10 +18,7 @@ use Rattle.table.specs.Sequence.{blank-record, record-at, stamped, in-sequence,
 use Rattle.table.proofs.Turns.{Each, Climbs, climbs, each-live, live-from, renewed}
 use Rattle.table.proofs.Ranks.{at-rank}
 use Rattle.turns.specs.Turns.{records-at, passes, Turns, Rewritten}
-use Rattle.turns.proofs.Chosen.{each-at, kept-orders}
-
-abbrev pub order-of : OrderRecord → RestingOrder
-order-of r = r .resting
+use Rattle.turns.proofs.Chosen.{order-of, each-at, kept-orders}
 
 -- One record less.
 
@@ -45,9 +42,10 @@ removed-first f (x ∷ l) (suc k) rest lt up in-it e =
     let v = kept-by f (removed l k) in
     let r = record-at l k in
     let later = each-at (λ y. x .time < y .time) l k (up .0) (omega arith) in
-    (elim (f x) as (λ t. cond t (x ∷ w) w ≡ r ∷ rest → cond t (x ∷ v) v ≡ rest)
-    [ true ↦ λ h. absurd (omega (arith, later, ap (λ (y : OrderRecord). y .time) (same-head x r w rest h)))
-    | false ↦ λ h. removed-first f l k rest (omega arith) (up .1) in-it h ]) e
+    (elim (f x) as (λ t. cond t (x ∷ w) w ≡ r ∷ rest → cond t (x ∷ v) v ≡ rest) [
+      | true ↦ λ h. absurd (omega (arith, later, ap (λ (y : OrderRecord). y .time) (same-head x r w rest h)))
+      | false ↦ λ h. removed-first f l k rest (omega arith) (up .1) in-it h
+    ]) e
 
 pub first-passes : (f : OrderRecord → Bool) (l : List OrderRecord) (r : OrderRecord) (rest : List OrderRecord) → kept-by f l ≡ r ∷ rest → f r ≡ true
 first-passes f [] r rest e = absurd (let z : _≡_ {A = ℕ} 0 1 = cc in omega arith)
@@ -75,6 +73,7 @@ none-kept f (x ∷ l) e =
 abbrev pub still : (RestingOrder → Bool) → ℕ → OrderRecord → Bool
 still test next r = ltb (r .time) next && test (r .resting)
 
+-- It does not pass, or has moved.
 abbrev pub settled : (RestingOrder → Bool) → ℕ → OrderRecord → Bool
 settled test next r = not (still test next r)
 

@@ -2,7 +2,7 @@
 ghost use mathlib.Core.Path.{_≡_};
 ghost use mathlib.Core.Bool.{true, not};
 ghost use mathlib.Core.List.{[], _∷_, map};
-ghost use Prim.Native.Nat.{ℕ, _+_, _<_, _≤_, _^_};
+ghost use Prim.Native.Nat.{_+_, _<_, _≤_, _^_};
 ghost use lib.ListN.{length, set};
 ghost use denote.Ref.{name};
 ghost use Rattle.std.specs.shelf.Lists.{removed, kept-by};
@@ -78,7 +78,14 @@ pub fn cancel_all(
 {
     let count = collect(&EveryOrder, orders, *ends, turns);
     for k in 0..count {
-        cancel(orders, journal, ends, turns[k] as usize, CancelReason::Close, sheet);
+        cancel(
+            orders,
+            journal,
+            ends,
+            turns[k] as usize,
+            CancelReason::Close,
+            sheet,
+        );
     }
 }
 

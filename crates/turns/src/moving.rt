@@ -1,6 +1,6 @@
 //! Picked orders go to the end of the time list.
 ghost use mathlib.Core.Path.{_≡_};
-ghost use Prim.Native.Nat.{ℕ, _+_, _<_, _≤_, _^_};
+ghost use Prim.Native.Nat.{_+_, _<_, _≤_, _^_};
 ghost use lib.ListN.{length, take};
 ghost use Rattle.rules.specs.Requotes.{to-end};
 ghost use Rattle.table.specs.Sequence.{resting-of};

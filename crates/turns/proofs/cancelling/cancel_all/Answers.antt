@@ -1,13 +1,11 @@
-use mathlib.Core.Path.{_≡_, refl, sym, ap, subst, _∙_}
+use mathlib.Core.Path.{_≡_, sym, ap, subst, _∙_}
 use mathlib.Core.Bool.{true}
 use mathlib.Core.List.{List, [], _∷_, map}
 use Prim.Native.Nat.{ℕ, _+_, _<_, _≤_}
 use native.Mathlib.Omega.{arith}
-use lib.ListN.{length, getD, set, take, drop, length-map}
+use lib.ListN.{length, getD, take, drop, length-map}
 use denote.Ref.{now}
 use Rattle.std.proofs.shelf.Lists.{length-take-le}
-use Rattle.types.specs.declared.orders.RestingOrder.{RestingOrder}
-use Rattle.types.specs.declared.reports.Report.{Report}
 use Rattle.runs.specs.Slices.{volume-of}
 use Rattle.sheet.specs.Sheets.{Adds}
 use Rattle.sheet.proofs.Sheets.{adds-more}
@@ -57,8 +55,7 @@ loop-k-again c =
     let same : record-at os p ≡ record-at start p = untouched (λ _. freed) ts start os k (t .apart) (i .3) in
     let within : p < length os = omega (arith, t .within, c .loop-k .kept) in
     let live : record-at os p .live ≡ true = subst (λ (x : OrderRecord). x .live ≡ true) (sym same) (t .live) in
-    let here : k < length ts = omega arith in
-    (
+    let here : k < length ts = omega arith in (
       e .sound,
       e .times ∙ i .1,
       moved-both start os (c .cancel .last .orders) (c .args .journal .now) (c .loop-k .journal) (c .cancel .last .journal) (sym (c .loop-k .kept .orders)) (i .2) (e .moved),
@@ -66,8 +63,8 @@ loop-k-again c =
       subst (λ (o : List OrderRecord). Left start o (drop (k + 1) (take n ts))) (sym (e .table)) (one-left start os p (drop (k + 1) (take n ts)) (subst (Left start os) (t .next) (i .4)) within live (i .0 .sequenced .distinct) same),
       subst (Alike start) (sym (e .table)) (alike-more start os p within (i .5)),
       subst (Adds (now (c .args .sheet .now .reports)) (c .args .sheet .now .count) (now (c .cancel .last .sheet .reports)) (c .cancel .last .sheet .count)) (sym (one-report start ts k here))
-      (adds-more _ _ (now (c .loop-k .sheet .reports)) (c .loop-k .sheet .count) _ _ (map (close-report start) (take k ts)) (close-report start p ∷ []) (i .6)
-      (subst (λ (x : OrderRecord). Adds (now (c .loop-k .sheet .reports)) (c .loop-k .sheet .count) (now (c .cancel .last .sheet .reports)) (c .cancel .last .sheet .count) (cancelled-at-close (x .resting) ∷ [])) same (e .adds))),
+          (adds-more _ _ (now (c .loop-k .sheet .reports)) (c .loop-k .sheet .count) _ _ (map (close-report start) (take k ts)) (close-report start p ∷ []) (i .6)
+          (subst (λ (x : OrderRecord). Adds (now (c .loop-k .sheet .reports)) (c .loop-k .sheet .count) (now (c .cancel .last .sheet .reports)) (c .cancel .last .sheet .count) (cancelled-at-close (x .resting) ∷ [])) same (e .adds))),
       e .lent ∙ i .7,
     )
 

@@ -1,4 +1,4 @@
-use mathlib.Core.Path.{_≡_, refl, sym, ap, subst, _∙_}
+use mathlib.Core.Path.{_≡_, sym, ap, subst, _∙_}
 use mathlib.Core.Bool.{true}
 use mathlib.Core.List.{List}
 use Prim.Native.Nat.{ℕ, _+_, _<_, _≤_}
@@ -16,8 +16,7 @@ loop-k-holds g c =
     let os = c .args .orders .now in
     let ts = c .collect-count .last .turns in
     let next = c .args .ends .now .next in
-    let p = c .pre in
-    (
+    let p = c .pre in (
       p .sound,
       omega arith,
       moved-none os (c .args .journal .now),
@@ -62,14 +61,13 @@ loop-k-again g c =
     let live : record-at os p .live ≡ true = subst (λ (x : OrderRecord). x .live ≡ true) (sym same) (t .live) in
     let e = c .to-end .ensures in
     let now : ℕ = c .loop-k .ends .next in
-    let late : next ≤ now = omega (arith, i .1) in
-    (
+    let late : next ≤ now = omega (arith, i .1) in (
       e .sound,
       omega (arith, e .times, i .1),
       moved-both start os (c .to-end .last .orders) (c .args .journal .now) (c .loop-k .journal) (c .to-end .last .journal) (sym (c .loop-k .kept .orders)) (i .2) (e .moved),
       subst (Restamped next (k + 1) ts start) (ap (λ (m : ℕ). set os p (stamped m (record-at os p))) (sym (i .1)) ∙ sym (e .table)) (rewritten-more (λ j. stamped (next + j)) ts start os k (t .apart) within (i .3)),
       subst (λ (o : List OrderRecord). Going test next start o (drop (k + 1) (take n ts))) (sym (e .table))
-      (went test next start os p (drop (k + 1) (take n ts)) (subst (Going test next start os) (t .next) (i .4)) within live (i .0 .sequenced .distinct) same now late (i .0 .sequenced .older)),
+          (went test next start os p (drop (k + 1) (take n ts)) (subst (Going test next start os) (t .next) (i .4)) within live (i .0 .sequenced .distinct) same now late (i .0 .sequenced .older)),
     )
 
 pub returns : need.returns

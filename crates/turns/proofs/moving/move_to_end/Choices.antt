@@ -1,6 +1,6 @@
 use mathlib.Core.Path.{_≡_}
 use Prim.Native.Nat.{_+_}
-use lib.ListN.{take, drop, length}
+use lib.ListN.{take, drop}
 use Rattle.table.specs.Noting.{Moved}
 use Rattle.table.specs.Places.{Sound}
 use Rattle.turns.specs.Turns.{Restamped}
