@@ -44,7 +44,7 @@ pub each-weaker : (P Q : OrderRecord → Type 0) → ((x : OrderRecord) → P x 
 each-weaker P Q w [] h = tt
 each-weaker P Q w (x ∷ l) h = (w x (h .0), each-weaker P Q w l (h .1))
 
-each-turn : (P : OrderRecord → Type 0) (o : OrderRecord) (l : List OrderRecord) → P o → Each P l → Each P (in-turn o l)
+pub each-turn : (P : OrderRecord → Type 0) (o : OrderRecord) (l : List OrderRecord) → P o → Each P l → Each P (in-turn o l)
 each-turn P o [] p h = (p, tt)
 each-turn P o (x ∷ xs) p h =
     elim (ltb (o .time) (x .time)) as (λ t. Each P (cond t (o ∷ x ∷ xs) (x ∷ in-turn o xs)))
@@ -64,7 +64,7 @@ turn-last : (o : OrderRecord) (l : List OrderRecord) → Each (λ x. x .time < o
 turn-last o [] h = refl
 turn-last o (x ∷ xs) h = cond-false _ _ _ (le-ltb (o .time) (x .time) (omega (arith, h .0))) ∙ ap (λ l. x ∷ l) (turn-last o xs (h .1))
 
-turn-before : (x o : OrderRecord) (l : List OrderRecord) → x .time < o .time → in-turn x (l ++ (o ∷ [])) ≡ in-turn x l ++ (o ∷ [])
+pub turn-before : (x o : OrderRecord) (l : List OrderRecord) → x .time < o .time → in-turn x (l ++ (o ∷ [])) ≡ in-turn x l ++ (o ∷ [])
 turn-before x o [] h = cond-true _ _ _ (lt-ltb (x .time) (o .time) h)
 turn-before x o (y ∷ l) h =
     elim (ltb (x .time) (y .time)) as (λ t. cond t (x ∷ y ∷ (l ++ (o ∷ []))) (y ∷ in-turn x (l ++ (o ∷ []))) ≡ cond t (x ∷ y ∷ l) (y ∷ in-turn x l) ++ (o ∷ []))
@@ -135,7 +135,7 @@ without-same s x (y ∷ l) e =
     elim (ltb (x .time) (y .time)) as (λ t. without s (cond t (x ∷ y ∷ l) (y ∷ in-turn x l)) ≡ without s (y ∷ l))
     [ true ↦ cond-false _ _ _ (other-no s x e) | false ↦ ap (λ m. cond (other s y) (y ∷ m) m) (without-same s x l e) ]
 
-abbrev Rises : List OrderRecord → Type 0
+abbrev pub Rises : List OrderRecord → Type 0
 Rises [] = Unit {0}
 Rises (x ∷ l) = Each (λ y. x .time ≤ y .time) l × Rises l
 
@@ -152,14 +152,14 @@ rises-turn x (y ∷ l) h =
     (λ e. let lt = ltb-true (x .time) (y .time) e in ((omega arith, each-weaker (λ z. y .time ≤ z .time) (λ z. x .time ≤ z .time) (λ z k. omega arith) l (h .0)), h))
     (λ e. let le = ltb-false (x .time) (y .time) e in (each-turn (λ z. y .time ≤ z .time) x l le (h .0), rises-turn x l (h .1)))
 
-rises-sequence : (os : List OrderRecord) → Rises (in-sequence os)
+pub rises-sequence : (os : List OrderRecord) → Rises (in-sequence os)
 unfolding in-sequence
 rises-sequence [] = tt
 rises-sequence (o ∷ os) =
     let rest = rises-sequence os in
     elim (o .live) as (λ t. Rises (cond t (in-turn o (in-sequence os)) (in-sequence os))) [ true ↦ rises-turn o (in-sequence os) rest | false ↦ rest ]
 
-turn-first : (x : OrderRecord) (l : List OrderRecord) → Each (λ y. x .time < y .time) l → in-turn x l ≡ x ∷ l
+pub turn-first : (x : OrderRecord) (l : List OrderRecord) → Each (λ y. x .time < y .time) l → in-turn x l ≡ x ∷ l
 turn-first x [] h = refl
 turn-first x (y ∷ l) h = cond-true _ _ _ (lt-ltb (x .time) (y .time) (h .0))
 

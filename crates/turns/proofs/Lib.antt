@@ -1,0 +1,4 @@
+pub mod Inserting
+pub mod Chosen
+pub mod Renewing
+pub mod Closing
