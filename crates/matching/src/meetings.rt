@@ -47,7 +47,14 @@ fn volume_of_slice(resting: &RestingOrder, hidden: bool) -> u32
 }
 
 /// The slip of the active order and that of the resting one make one trade.
-fn traded(active: &Order, resting: &Order, own: Slip, other: Slip, price: Price, suppressed: bool) -> Report
+fn traded(
+    active: &Order,
+    resting: &Order,
+    own: Slip,
+    other: Slip,
+    price: Price,
+    suppressed: bool,
+) -> Report
     requires own { ⌜ own .order ≡ now active .number ⌝ }
     requires other { ⌜ other .order ≡ now resting .number ⌝ }
     requires volume { ⌜ own .volume ≡ other .volume ⌝ }
@@ -81,7 +88,12 @@ fn trade(
 }
 
 /// The active order, which has less left, is cancelled, and the resting one decremented.
-fn decrement_resting(active: &Order, left: &mut Volume, resting: &mut RestingOrder, sheet: &mut EventSheet<'_>)
+fn decrement_resting(
+    active: &Order,
+    left: &mut Volume,
+    resting: &mut RestingOrder,
+    sheet: &mut EventSheet<'_>,
+)
     requires less { ⌜ now left .shares < volume-of (now resting) ⌝ }
     requires room { ⌜ now sheet .count + 2 < 2 ^ 64 ⌝ }
     ensures comes { λ _. ⌜ Comes-to (smaller-out (now (active .entry)) (now (left .entry) .shares) (now (resting .entry))) (now (resting .entry)) (now (left .exit)) (now (resting .exit)) (now (now (sheet .entry) .reports)) (now (sheet .entry) .count) (now (now (sheet .exit) .reports)) (now (sheet .exit) .count) ⌝ }
@@ -95,7 +107,12 @@ fn decrement_resting(active: &Order, left: &mut Volume, resting: &mut RestingOrd
 }
 
 /// The resting order, which has less left, is cancelled, and the active one decremented.
-fn decrement_active(active: &Order, left: &mut Volume, resting: &mut RestingOrder, sheet: &mut EventSheet<'_>)
+fn decrement_active(
+    active: &Order,
+    left: &mut Volume,
+    resting: &mut RestingOrder,
+    sheet: &mut EventSheet<'_>,
+)
     requires less { ⌜ volume-of (now resting) < now left .shares ⌝ }
     requires fits { ⌜ volume-of (now resting) < 2 ^ 32 ⌝ }
     requires room { ⌜ now sheet .count + 2 < 2 ^ 64 ⌝ }
@@ -113,7 +130,12 @@ fn decrement_active(active: &Order, left: &mut Volume, resting: &mut RestingOrde
 }
 
 /// Both have as much left and are cancelled, the resting one first.
-fn cancel_both(active: &Order, left: &mut Volume, resting: &mut RestingOrder, sheet: &mut EventSheet<'_>)
+fn cancel_both(
+    active: &Order,
+    left: &mut Volume,
+    resting: &mut RestingOrder,
+    sheet: &mut EventSheet<'_>,
+)
     requires level { ⌜ volume-of (now resting) ≡ now left .shares ⌝ }
     requires fits { ⌜ volume-of (now resting) < 2 ^ 32 ⌝ }
     requires room { ⌜ now sheet .count + 2 < 2 ^ 64 ⌝ }

@@ -49,7 +49,14 @@ fn meet(
 {
     let mut order = orders[slice.place];
     let reserve = order.resting.reserve.shares;
-    meet_resting(view, active, left, &mut order.resting, slice.facts.hidden, sheet);
+    meet_resting(
+        view,
+        active,
+        left,
+        &mut order.resting,
+        slice.facts.hidden,
+        sheet,
+    );
     order.drawn += reserve - order.resting.reserve.shares;
     write(orders, journal, slice.place, order);
 }

@@ -88,7 +88,12 @@ impl Candidate {
 }
 
 /// The better of the best so far and one more.
-fn better<R: Priority>(rule: &R, taker: Taker, best: Option<Candidate>, next: Candidate) -> Option<Candidate>
+fn better<R: Priority>(
+    rule: &R,
+    taker: Taker,
+    best: Option<Candidate>,
+    next: Candidate,
+) -> Option<Candidate>
     ensures { λ r. ⌜ r ≡ better-of (R·Priority .rule (now (rule .entry))) taker best next ⌝ }
 {
     match best {
@@ -104,19 +109,43 @@ fn better<R: Priority>(rule: &R, taker: Taker, best: Option<Candidate>, next: Ca
 }
 
 /// Considers one slice of a record, unless it is empty.
-fn consider<R: Priority>(rule: &R, view: &View, taker: Taker, order: &OrderRecord, place: usize, hidden: bool, best: Option<Candidate>) -> Option<Candidate>
+fn consider<R: Priority>(
+    rule: &R,
+    view: &View,
+    taker: Taker,
+    order: &OrderRecord,
+    place: usize,
+    hidden: bool,
+    best: Option<Candidate>,
+) -> Option<Candidate>
     ensures { λ r. ⌜ r ≡ considered (R·Priority .rule (now (rule .entry))) (now (view .entry)) taker (now (order .entry)) place hidden best ⌝ }
 {
-    let volume = if hidden { order.resting.reserve.shares } else { order.resting.shown.shares };
+    let volume = if hidden {
+        order.resting.reserve.shares
+    } else {
+        order.resting.shown.shares
+    };
     if volume > 0 {
-        better(rule, taker, best, Candidate::new(view, order, place, hidden))
+        better(
+            rule,
+            taker,
+            best,
+            Candidate::new(view, order, place, hidden),
+        )
     } else {
         best
     }
 }
 
 /// Considers the slices of a record, if the active order may take it.
-fn visit<R: Priority>(rule: &R, view: &View, active: &Order, order: &OrderRecord, place: usize, best: Option<Candidate>) -> Option<Candidate>
+fn visit<R: Priority>(
+    rule: &R,
+    view: &View,
+    active: &Order,
+    order: &OrderRecord,
+    place: usize,
+    best: Option<Candidate>,
+) -> Option<Candidate>
     ensures { λ r. ⌜ r ≡ visited (R·Priority .rule (now (rule .entry))) (now (view .entry)) (now (active .entry)) (now (order .entry)) place best ⌝ }
 {
     if order.live && may_take(view, &active.entry, &order.resting.order.entry) {
@@ -129,7 +158,13 @@ fn visit<R: Priority>(rule: &R, view: &View, active: &Order, order: &OrderRecord
 }
 
 /// The slice that the active order meets next. No order rests from `high` on.
-pub fn foremost_slice<R: Priority>(rule: &R, view: &View, active: &Order, orders: &[OrderRecord], high: usize) -> Option<Candidate>
+pub fn foremost_slice<R: Priority>(
+    rule: &R,
+    view: &View,
+    active: &Order,
+    orders: &[OrderRecord],
+    high: usize,
+) -> Option<Candidate>
     requires within { ⌜ high ≤ length (now orders) ⌝ }
     requires above { ⌜ None-from high (now orders) ⌝ }
     requires distinct { ⌜ Distinct (now orders) ⌝ }

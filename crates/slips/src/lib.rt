@@ -39,8 +39,14 @@ impl Slip {
         requires { ⌜ buyer .volume ≡ seller .volume ⌝ }
         ensures { λ r. ⌜ r ≡ trade (buyer .order) (seller .order) price (buyer .volume) active suppressed ⌝ }
     {
-        let Slip { order: buyer, volume } = buyer;
-        let Slip { order: seller, volume: _ } = seller;
+        let Slip {
+            order: buyer,
+            volume,
+        } = buyer;
+        let Slip {
+            order: seller,
+            volume: _,
+        } = seller;
         Report::trade(buyer, seller, price, volume, active, suppressed)
     }
 }

@@ -19,11 +19,10 @@ pub run-again : need.run-again
 run-again g c =
     let rule = g .R·Priority .rule (c .args .rule .now) in
     let sound = sound-same (c .args .orders .now) (c .run .orders) (c .args .ends) (c .run .inv .0 .same) (c .pre .sound) in
-    let live = leads-live rule (c .args .view .now) (c .args .active .now) (c .run .orders) _ (c .in-Some .slice) (c .in-Some .ensures tt .leads) in
-    (
+    let live = leads-live rule (c .args .view .now) (c .args .active .now) (c .run .orders) _ (c .in-Some .slice) (c .in-Some .ensures tt .leads) in (
       subst (λ (v : Volume). Going rule (c .args .view .now) (c .args .active .now) (c .args .volume .shares) (c .args .orders .now) (c .args .journal .now) (now (c .args .sheet .now .reports)) (c .args .sheet .now .count) (v .shares) (c .meet .last .orders) (c .meet .last .journal) (now (c .meet .last .sheet .reports)) (c .meet .last .sheet .count)) (sym (c .meet .ensures .left))
-      (going-on rule (c .args .view .now) (c .args .active .now) (c .run .left .shares) (c .run .orders) (c .in-Some .slice) (c .run-test .taken) (c .in-Some .ensures tt .foremost) (sound .sequenced .distinct) live
-      _ _ _ _ _ _ _ _ _ _ _ _ (c .meet .ensures .table) (c .meet .ensures .adds) (c .meet .ensures .moved) (c .run .inv .0)),
+          (going-on rule (c .args .view .now) (c .args .active .now) (c .run .left .shares) (c .run .orders) (c .in-Some .slice) (c .run-test .taken) (c .in-Some .ensures tt .foremost) (sound .sequenced .distinct) live
+          _ _ _ _ _ _ _ _ _ _ _ _ (c .meet .ensures .table) (c .meet .ensures .adds) (c .meet .ensures .moved) (c .run .inv .0)),
       c .meet .ensures .lent ∙ c .run .inv .1,
     )
 
