@@ -25,7 +25,7 @@ use Rattle.table.proofs.Turns as turns
 use Rattle.table.proofs.Resting as list
 use Rattle.matching.specs.Running.{Same-order, Same-orders, May-rest, All-may-rest}
 use Rattle.scan.proofs.Leading.{live-inside}
-use Rattle.tidying.specs.Tidying.{fresh, undrawn, renewed, spends, settled, to-tidy, Undrawn, Settled, Oldest}
+use Rattle.tidying.specs.Tidying.{fresh, undrawn, renewed, spends, settled, to-tidy, Undrawn, Since, Drawn-since, Settled, Oldest}
 use Rattle.tidying.proofs.Kept.{kept-removed, kept-set, kept-first, kept-last, kept-not-last, kept-all, kept-none, set-self, sum-set, sum-few}
 
 abbrev spent-one : OrderRecord → Bool
@@ -232,7 +232,7 @@ Pairs R (x ∷ xs) (y ∷ ys) = R x y × Pairs R xs ys
 
 -- what was drawn is what the reserve lost
 abbrev Drew : OrderRecord → OrderRecord → Type 0
-Drew r r′ = (r′ .time ≡ r .time) × (r .resting .reserve .shares ≡ r′ .drawn + r′ .resting .reserve .shares)
+Drew r r′ = (r′ .time ≡ r .time) × (spent (r′ .resting) ≡ true → r .resting .reserve .shares ≡ r′ .drawn + r′ .resting .reserve .shares)
 
 -- the same of two places, where an order rests
 abbrev Ran : OrderRecord → OrderRecord → Type 0
@@ -273,26 +273,34 @@ refresh-is : (xs ys : List OrderRecord) → Pairs Drew xs ys → refresh (map (�
 refresh-is [] [] p = refl
 refresh-is [] (y ∷ ys) p = absurd p
 refresh-is (x ∷ xs) [] p = absurd p
-refresh-is (x ∷ xs) (y ∷ ys) (q, p) = (λ j. cond (spent (y .resting)) (same j ∷ refresh-is xs ys p j) (refresh-is xs ys p j)) ∙ out (spent (y .resting))
+refresh-is (x ∷ xs) (y ∷ ys) (q, p) = ap (λ (zs : List RestingOrder). cond (spent (y .resting)) (refreshed (x .resting) (y .resting) ∷ zs) zs) (refresh-is xs ys p) ∙ out (spent (y .resting)) refl
   where
-    taken : x .resting .reserve .shares - y .resting .reserve .shares ≡ y .drawn
-    taken = omega (arith, q .1)
+    taken : spent (y .resting) ≡ true → x .resting .reserve .shares - y .resting .reserve .shares ≡ y .drawn
+    taken e = omega (arith, q .1 e)
 
-    same : refreshed (x .resting) (y .resting) ≡ fresh y
-    same = ap (λ (t : ℕ). resting (y .resting .order) (min (y .resting .order .entry .display .shares - t % (y .resting .order .entry .display .shares)) (y .resting .reserve .shares)) (y .resting .reserve .shares - min (y .resting .order .entry .display .shares - t % (y .resting .order .entry .display .shares)) (y .resting .reserve .shares))) taken
+    same : spent (y .resting) ≡ true → refreshed (x .resting) (y .resting) ≡ fresh y
+    same e = ap (λ (t : ℕ). resting (y .resting .order) (min (y .resting .order .entry .display .shares - t % (y .resting .order .entry .display .shares)) (y .resting .reserve .shares)) (y .resting .reserve .shares - min (y .resting .order .entry .display .shares - t % (y .resting .order .entry .display .shares)) (y .resting .reserve .shares))) (taken e)
 
-    out : (b : Bool) → cond b (fresh y ∷ map fresh (kept-by spent-one ys)) (map fresh (kept-by spent-one ys)) ≡ map fresh (cond b (y ∷ kept-by spent-one ys) (kept-by spent-one ys))
-    out true = refl
-    out false = refl
+    out : (b : Bool) → spent (y .resting) ≡ b
+        → cond b (refreshed (x .resting) (y .resting) ∷ map fresh (kept-by spent-one ys)) (map fresh (kept-by spent-one ys)) ≡ map fresh (cond b (y ∷ kept-by spent-one ys) (kept-by spent-one ys))
+    out true e = ap (λ (o : RestingOrder). o ∷ map fresh (kept-by spent-one ys)) (same e)
+    out false e = refl
 
-pub tidied-is : (before os : List OrderRecord) → Undrawn before → Same-orders before os → tidied (resting-of before) (resting-of os) ≡ to-tidy os
+pub tidied-is : (before os : List OrderRecord) → Drawn-since before os → tidied (resting-of before) (resting-of os) ≡ to-tidy os
 unfolding to-tidy tidied resting-of
-tidied-is before os none same =
+tidied-is before os since =
     ap (λ (zs : List RestingOrder). kept-by stays (map (λ (r : OrderRecord). r .resting) (in-sequence os)) ++ zs)
-    (refresh-is (in-sequence before) (in-sequence os) (pairs-sequence before os (paired before os (same .places) each)))
+    (refresh-is (in-sequence before) (in-sequence os) (pairs-sequence before os (paired before os (since .places) each)))
   where
     each : (k : ℕ) → Ran (record-at before k) (record-at os k)
-    each k = (same .each k .live, λ u. (same .each k .time, omega (arith, same .each k .drawn, none k u)))
+    each k = (since .each k .live, λ u. (since .each k .time, since .each k .drawn u))
+
+-- After a run over a table with nothing drawn the records say what was drawn.
+pub since-run : (before os : List OrderRecord) → Undrawn before → Same-orders before os → Drawn-since before os
+since-run before os none same = record {
+  places = same .places;
+  each = λ k. record { live = same .each k .live; time = same .each k .time; drawn = λ u e. omega (arith, same .each k .drawn, none k u) };
+}
 
 -- How many are spent.
 abbrev pub count-spent : List OrderRecord → ℕ

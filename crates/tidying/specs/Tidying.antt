@@ -4,6 +4,7 @@ use mathlib.Core.Bool.{Bool, true, false, cond, _&&_}
 use mathlib.Core.List.{List, _++_, map}
 use Prim.Native.Nat.{ℕ, _+_, _-_, _%_, _<_, _≤_, min}
 use lib.Dec.{ltb}
+use lib.ListN.{length}
 use Rattle.std.specs.declared.option.Option.{Option}
 use Rattle.std.specs.declared.option.Option.the-variants.{Some, None}
 use Rattle.std.specs.shelf.Lists.{kept-by}
@@ -43,6 +44,17 @@ to-tidy os = kept-by stays (resting-of os) ++ map fresh (kept-by (λ r. spent (r
 -- No order on the table has anything drawn.
 abbrev pub Undrawn : List OrderRecord → Type 0
 Undrawn os = (k : ℕ) → record-at os k .live ≡ true → record-at os k .drawn ≡ 0
+
+-- The order kept its place and its timestamp, and what its record says was drawn is what its reserve has lost, where it is to be refreshed.
+pub record Since (r r′ : OrderRecord) : Type 0 where
+  pub live : r′ .live ≡ r .live
+  pub time : r′ .time ≡ r .time
+  pub drawn : r .live ≡ true → spent (r′ .resting) ≡ true → r .resting .reserve .shares ≡ r′ .drawn + r′ .resting .reserve .shares
+
+-- The same at each place of the table.
+pub record Drawn-since (before os : List OrderRecord) : Type 0 where
+  pub places : length os ≡ length before
+  pub each : (k : ℕ) → Since (record-at before k) (record-at os k)
 
 -- No order on the table is used up, and only what is to be refreshed has anything drawn.
 pub record Settled (r : OrderRecord) : Type 0 where

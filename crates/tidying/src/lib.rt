@@ -10,8 +10,8 @@ ghost use Rattle.table.specs.declared.records.OrderRecord.{OrderRecord as Place
 ghost use Rattle.table.specs.Sequence.{record-at, resting-of};
 ghost use Rattle.table.specs.Noting.{Moved};
 ghost use Rattle.table.specs.Places.{Sound};
-ghost use Rattle.matching.specs.Running.{Same-orders, May-rest, All-may-rest};
-ghost use Rattle.tidying.specs.Tidying.{fresh, undrawn, renewed as renewed-at, spends, settled, to-tidy, Undrawn, Settled, Oldest-spent};
+ghost use Rattle.matching.specs.Running.{May-rest, All-may-rest};
+ghost use Rattle.tidying.specs.Tidying.{fresh, undrawn, renewed as renewed-at, spends, settled, to-tidy, Undrawn, Drawn-since, Settled, Oldest-spent};
 use table::Ends;
 use table::Journal;
 use table::OrderRecord;
@@ -149,7 +149,7 @@ pub fn tidy(orders: &mut [OrderRecord], journal: &mut Journal, ends: &mut Ends)
     requires sound { ⌜ Sound (now orders) (now ends) ⌝ }
     requires rest { ⌜ All-may-rest (now orders) ⌝ }
     requires times { ⌜ now ends .next + 65536 < 2 ^ 64 ⌝ }
-    ensures list { λ _. ⌜ ((before : List Place) → Undrawn before → Same-orders before (now (orders .entry)) → resting-of (now (orders .exit)) ≡ tidied (resting-of before) (resting-of (now (orders .entry)))) ⌝ }
+    ensures list { λ _. ⌜ ((before : List Place) → Drawn-since before (now (orders .entry)) → resting-of (now (orders .exit)) ≡ tidied (resting-of before) (resting-of (now (orders .entry)))) ⌝ }
     ensures undrawn { λ _. ⌜ Undrawn (now (orders .exit)) ⌝ }
     ensures sound { λ _. ⌜ Sound (now (orders .exit)) (now (ends .exit)) ⌝ }
     ensures rest { λ _. ⌜ All-may-rest (now (orders .exit)) ⌝ }

@@ -60,9 +60,9 @@ returns c =
     let inv = c .loop-i .inv in
     let none = none-spent os (c .loop-i .ends .high) (inv .0 .above) (c .in-rest .ensures tt) in
     record {
-      list = λ before clean same.
+      list = λ before since.
           sym (tidy-end os (inv .0 .sequenced .distinct) (inv .3) none) ∙ inv .2 ∙ c .settle-all .ensures .list
-          ∙ sym (tidied-is before (c .args .orders .now) clean same);
+          ∙ sym (tidied-is before (c .args .orders .now) since);
       undrawn = end-undrawn os (inv .3) none;
       sound = inv .0;
       rest = inv .1;
