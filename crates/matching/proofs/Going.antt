@@ -57,15 +57,17 @@ anywhere view a left s = go (prevents a (s .resting .order))
 pub adds-along : {f g : Effect} {s : List Report} {c : ℕ} {s′ : List Report} {c′ : ℕ} → f ≡ g → Adds s c s′ c′ (reverse (f .reports)) → Adds s c s′ c′ (reverse (g .reports))
 adds-along {s = s} {c = c} {s′ = s′} {c′ = c′} e h = subst (λ (f : Effect). Adds s c s′ c′ (reverse (f .reports))) e h
 
--- A meeting gives the resting order no volume, and makes two reports at most.
-pub record Mild (o : RestingOrder) (f : Effect) : Type 0 where
+-- A meeting gives neither order volume, and makes two reports at most.
+pub record Mild (v : ℕ) (o : RestingOrder) (f : Effect) : Type 0 where
+  pub left : f .left ≤ v
   pub reserve : f .reserve ≤ o .reserve .shares
   pub volume : f .shown + f .reserve ≤ volume-of o
   pub few : length (f .reports) ≤ 2
 
-trading-mild : (view : View) (a : Order) (left : ℕ) (s : Slice) (suppressed : Bool) → Mild (s .resting) (trading view a left s suppressed)
+trading-mild : (view : View) (a : Order) (left : ℕ) (s : Slice) (suppressed : Bool) → Mild left (s .resting) (trading view a left s suppressed)
 unfolding trading
 trading-mild view a left s suppressed = record {
+  left = omega arith;
   reserve = reserve (s .hidden) (s .resting .reserve .shares) (min left (amount s));
   volume = volume (s .hidden) (s .resting .shown .shares) (s .resting .reserve .shares) (min left (amount s));
   few = omega arith;
@@ -79,26 +81,26 @@ trading-mild view a left s suppressed = record {
     volume true x y v = omega arith
     volume false x y v = omega arith
 
-smaller-mild : (a : Order) (left : ℕ) (o : RestingOrder) → Mild o (smaller-out a left o)
+smaller-mild : (a : Order) (left : ℕ) (o : RestingOrder) → Mild left o (smaller-out a left o)
 unfolding smaller-out
 smaller-mild a left o = go (ltb left (volume-of o)) refl (ltb (volume-of o) left) refl
   where
-    go : (b : Bool) → ltb left (volume-of o) ≡ b → (c : Bool) → ltb (volume-of o) left ≡ c → Mild o (smaller-out a left o)
-    go true e c f = rw e (record { reserve = omega arith; volume = omega arith; few = omega arith })
-    go false e true f = rw (e, f) (record { reserve = omega arith; volume = omega arith; few = omega arith })
-    go false e false f = rw (e, f) (record { reserve = omega arith; volume = omega arith; few = omega arith })
+    go : (b : Bool) → ltb left (volume-of o) ≡ b → (c : Bool) → ltb (volume-of o) left ≡ c → Mild left o (smaller-out a left o)
+    go true e c f = rw e (record { left = omega arith; reserve = omega arith; volume = omega arith; few = omega arith })
+    go false e true f = rw (e, f) (record { left = omega arith; reserve = omega arith; volume = omega arith; few = omega arith })
+    go false e false f = rw (e, f) (record { left = omega arith; reserve = omega arith; volume = omega arith; few = omega arith })
 
-pub mild : (view : View) (a : Order) (left : ℕ) (s : Slice) → Mild (s .resting) (meeting view a left s)
+pub mild : (view : View) (a : Order) (left : ℕ) (s : Slice) → Mild left (s .resting) (meeting view a left s)
 unfolding meeting
 mild view a left s = go (prevents a (s .resting .order))
   where
-    go : (i : Option StpInstruction) → Mild (s .resting) (by-instruction i view a left s)
+    go : (i : Option StpInstruction) → Mild left (s .resting) (by-instruction i view a left s)
     go None = trading-mild view a left s false
     go (Some Off) = trading-mild view a left s false
     go (Some TradeAndSuppress) = trading-mild view a left s true
     go (Some CancelAndDecrement) = smaller-mild a left (s .resting)
-    go (Some CancelNewest) = record { reserve = omega arith; volume = omega arith; few = omega arith }
-    go (Some CancelOldest) = record { reserve = omega arith; volume = omega arith; few = omega arith }
+    go (Some CancelNewest) = record { left = omega arith; reserve = omega arith; volume = omega arith; few = omega arith }
+    go (Some CancelOldest) = record { left = omega arith; reserve = omega arith; volume = omega arith; few = omega arith }
 
 -- The orders stay the same.
 
@@ -120,8 +122,8 @@ same-both os os′ os″ p q = record {
   };
 }
 
-pub met-same : (f : Effect) (r : OrderRecord) → Mild (r .resting) f → Same-order r (met f r)
-met-same f r m = record { live = refl; time = refl; order = refl; drawn = omega (arith, m .reserve); volume = m .volume }
+pub met-same : (v : ℕ) (f : Effect) (r : OrderRecord) → Mild v (r .resting) f → Same-order r (met f r)
+met-same v f r m = record { live = refl; time = refl; order = refl; drawn = omega (arith, m .reserve); volume = m .volume }
 
 pub same-one : (os : List OrderRecord) (i : ℕ) (o : OrderRecord) → i < length os → Same-order (record-at os i) o → Same-orders os (set os i o)
 same-one os i o within new = record {
@@ -175,12 +177,13 @@ pub record Going (rule : Rule) (view : View) (a : Order) (v : ℕ) (os₀ : List
   pub log : List Report
   pub goes : run rule view a (on-table left os log) ≡ run rule view a (on-table v os₀ [])
   pub adds : Adds s₀ c₀ s c (reverse log)
+  pub less : left ≤ v
   pub same : Same-orders os₀ os
   pub few : c + 2 * in-play (on-table left os []) ≤ c₀ + 2 * in-play (on-table v os₀ [])
   pub moved : Moved os₀ j₀ os j
 
 pub going-start : (rule : Rule) (view : View) (a : Order) (v : ℕ) (os : List OrderRecord) (j : Journal) (s : List Report) (c : ℕ) → Going rule view a v os j s c v os j s c
-going-start rule view a v os j s c = record { log = []; goes = refl; adds = adds-none s c; same = same-none os; few = omega arith; moved = moved-none os j }
+going-start rule view a v os j s c = record { log = []; goes = refl; adds = adds-none s c; less = omega arith; same = same-none os; few = omega arith; moved = moved-none os j }
 
 module _ (rule : Rule) (view : View) (a : Order) (left : ℕ) (os : List OrderRecord) (b : Candidate) (some : 0 < left)
     (leads : slice-of os (Some b) ≡ foremost (ahead rule view a) (slices view a (resting-of os))) where
@@ -224,7 +227,8 @@ module _ (rule : Rule) (view : View) (a : Order) (left : ℕ) (os : List OrderRe
       log = comes .reports ++ g .log;
       goes = ap (λ (z : List OrderRecord). run rule view a (on-table (comes .left) z (comes .reports ++ g .log))) e ∙ goes-on (g .log) ∙ g .goes;
       adds = subst (Adds s₀ c₀ s′ c′) (sym (reverse-append (comes .reports) (g .log))) (adds-more s₀ c₀ s c s′ c′ (reverse (g .log)) (reverse (comes .reports)) (g .adds) ad);
-      same = same-both os₀ os os′ (g .same) (subst (Same-orders os) (sym e) (same-one os (b .place) (met comes (record-at os (b .place))) (live-inside os (b .place) live) (met-same comes (record-at os (b .place)) (mild view a left this))));
+      less = omega (arith, g .less, mild view a left this .left);
+      same = same-both os₀ os os′ (g .same) (subst (Same-orders os) (sym e) (same-one os (b .place) (met comes (record-at os (b .place))) (live-inside os (b .place) live) (met-same left comes (record-at os (b .place)) (mild view a left this))));
       few =
           let sh = shrinks in
           let eq = ap (λ (z : List OrderRecord). sum-of volume-of (resting-of z)) e in

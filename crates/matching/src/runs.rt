@@ -78,6 +78,7 @@ pub fn run<R: Priority>(
     ensures left { λ r. ⌜ r ≡ shares (run-of (R·Priority .rule (now (rule .entry))) (now (view .entry)) (now (active .entry)) (on-table (volume .shares) (now (orders .entry)) []) .left) ⌝ }
     ensures list { λ _. ⌜ resting-of (now (orders .exit)) ≡ run-of (R·Priority .rule (now (rule .entry))) (now (view .entry)) (now (active .entry)) (on-table (volume .shares) (now (orders .entry)) []) .others ⌝ }
     ensures adds { λ _. ⌜ Adds (now (now (sheet .entry) .reports)) (now (sheet .entry) .count) (now (now (sheet .exit) .reports)) (now (sheet .exit) .count) (reverse (run-of (R·Priority .rule (now (rule .entry))) (now (view .entry)) (now (active .entry)) (on-table (volume .shares) (now (orders .entry)) []) .log)) ⌝ }
+    ensures less { λ r. ⌜ r .shares ≤ volume .shares ⌝ }
     ensures same { λ _. ⌜ Same-orders (now (orders .entry)) (now (orders .exit)) ⌝ }
     ensures sound { λ _. ⌜ Sound (now (orders .exit)) ends ⌝ }
     ensures rest { λ _. ⌜ All-may-rest (now (orders .exit)) ⌝ }
