@@ -5,7 +5,7 @@ use Rattle.runs.specs.Lists.{sum-of}
 use Rattle.runs.specs.Slices.{volume-of}
 use Rattle.table.specs.Sequence.{resting-of}
 use Rattle.matching.proofs.Going.{Going}
-use Rattle.matching.proofs.runs.run.Given as given
+use Rattle.matching.proofs.run.Given as given
 
 abbrev pub Inv-run : given.InvT-run
 Inv-run g l =

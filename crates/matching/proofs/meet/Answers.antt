@@ -10,7 +10,7 @@ use Rattle.table.specs.Sequence.{record-at}
 use Rattle.scan.specs.Leading.{slice-on}
 use Rattle.matching.specs.Meetings.{slice-from, met}
 use Rattle.matching.proofs.Going.{anywhere, adds-along, mild}
-use Rattle.matching.proofs.runs.meet.Needs as need
+use Rattle.matching.proofs.meet.Needs as need
 
 pub sub-order : need.sub-order
 sub-order c =

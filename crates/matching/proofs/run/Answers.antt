@@ -5,7 +5,7 @@ use Rattle.types.specs.declared.money.Volume.{Volume}
 use Rattle.runs.specs.Meetings.{shares}
 use Rattle.matching.proofs.Going.{Going, sound-same, rest-same, shrinks-to, going-on, ends-used, ends-none, end-left, end-list, end-adds}
 use Rattle.scan.proofs.Leading.{leads-live}
-use Rattle.matching.proofs.runs.run.Needs as need
+use Rattle.matching.proofs.run.Needs as need
 
 pub run-less : need.run-less
 run-less g c =
