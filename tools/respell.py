@@ -64,12 +64,14 @@ def own_names():
 
 
 def dashed(name):
-    return "-" in name and re.match(r"^[A-Za-z]", name) and not name.endswith("-")
+    if not re.match(r"^[A-Za-z]", name) or name.endswith("-"):
+        return False
+    return "-" in name or (name[0].isupper() and "_" in name and not name.isupper())
 
 
 def respelt(name):
     if name[0].isupper():
-        return "".join(part[:1].upper() + part[1:] for part in name.split("-"))
+        return "".join(part[:1].upper() + part[1:] for part in re.split("[-_]", name))
     return name.replace("-", "_")
 
 

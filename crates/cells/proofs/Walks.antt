@@ -1,12 +1,12 @@
 -- A walk along the places of a key, from its home on.
-use Rattle.std.proofs.Common.{◌≡◌, ℕ, ◌+◌, ◌%◌, ◌<◌, ◌≤◌, Bool, ◌⊎◌, List, length, None, Decides, sym, refl, ap, ◌∙◌, subst, inl, inr, arith}
+use Rattle.std.proofs.Common.{◌≡◌, ℕ, ◌+◌, ◌<◌, ◌≤◌, Bool, ◌⊎◌, List, length, None, Decides, sym, ap, ◌∙◌, subst, inl, inr, arith}
 use Rattle.std.proofs.lemmas.Nat.{mod_below}
 use Rattle.std.proofs.lemmas.Bool.{cases_order, cases_lt}
 use Rattle.cells.specs.declared.search.Seek.TheVariants.{Here, Open, Full}
 use Rattle.cells.specs.declared.search.View.TheVariants as seen
 use Rattle.cells.specs.declared.cell.Cell.{Cell}
 use Rattle.cells.specs.declared.cell.Cell.TheVariants.{Free, Used}
-use Rattle.cells.specs.Cells.{lookup, after, at, gap, home, Rules, Sound}
+use Rattle.cells.specs.Cells.{lookup, after, at, gap, home, Sound}
 use Rattle.cells.specs.Searching.{view, Sought}
 use Rattle.cells.proofs.Rings.{gap_below, gap_same, gap_once, gap_next, next_below}
 use Rattle.cells.proofs.Lookups.{free_not_used, used_below, lookup_none, lookup_some, view_free, view_mine, view_other}

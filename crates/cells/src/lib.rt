@@ -3,6 +3,8 @@
 //! Open addressing: a key is looked for from its home place on, round the end of the cells, up to the first free place.
 //!
 //! `Sound` says that such a search finds every key. `clear` makes any cells sound; `locate` and `find` ask for it.
+#![tactic(auto)]
+
 mod cell;
 mod key;
 mod keys;

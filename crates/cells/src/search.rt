@@ -24,7 +24,7 @@ enum View {
 
 fn look<K: Key, V: Copy>(cells: &[Cell<K, V>], p: usize, key: &K) -> View
     requires { p < length cells.now }
-    ensures { result ≡ view equal (at cells.now p) key.now }
+    ensures { result ≡ view K.equal (at cells.now p) key.now }
 {
     let cell = cells[p];
     match cell {
@@ -43,8 +43,8 @@ pub fn next_place(p: usize, n: usize) -> usize
 
 /// Where the key stands, or may stand.
 pub fn locate<K: Key, V: Copy>(cells: &[Cell<K, V>], key: &K) -> Seek
-    requires { Sound number cells.now }
-    ensures { Sought equal number cells.now key.now result }
+    requires { Sound K.number cells.now }
+    ensures { Sought K.equal K.number cells.now key.now result }
 {
     let n = cells.len();
     if n == 0 {
@@ -80,8 +80,8 @@ pub fn value_at<K: Copy, V: Copy>(cells: &[Cell<K, V>], p: usize) -> Option<V>
 
 /// What the key finds.
 pub fn find<K: Key, V: Copy>(cells: &[Cell<K, V>], key: &K) -> Option<V>
-    requires { Sound number cells.now }
-    ensures { result ≡ lookup equal cells.now key.now }
+    requires { Sound K.number cells.now }
+    ensures { result ≡ lookup K.equal cells.now key.now }
 {
     match locate(cells, key) {
         Seek::Here(p) => value_at(cells, p),
@@ -92,8 +92,8 @@ pub fn find<K: Key, V: Copy>(cells: &[Cell<K, V>], key: &K) -> Option<V>
 
 /// Sets every place free, whatever the cells hold.
 pub fn clear<K: Key, V: Copy>(cells: &mut [Cell<K, V>])
-    ensures sound { Sound number cells.new }
-    ensures none { (q : K) → lookup equal cells.new q ≡ None }
+    ensures sound { Sound K.number cells.new }
+    ensures none { (q : K) → lookup K.equal cells.new q ≡ None }
     ensures taken { taken cells.new ≡ 0 }
 {
     for i in 0..cells.len() {

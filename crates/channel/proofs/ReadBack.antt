@@ -10,9 +10,9 @@ use Rattle.wire.specs.Layouts.{Width, one, two, four, size, limit, number, field
 use Rattle.wire.specs.Reading.{announced, Form, Read}
 use Rattle.wire.specs.Reports.{report_kind, report_layout, report_numbers, report_bytes, report_at, report_form, read_report}
 use Rattle.wire.proofs.Laws.{below}
-use Rattle.wire.proofs.Trips.{Was, was_read}
+use Rattle.wire.proofs.Trips.{was_read}
 use Rattle.wire.proofs.ReportTrips.{report_reads, report_written}
-use Rattle.channel.specs.Frames.{or_blank, report_in, reports_in, NoBlank, Reads, ReadBack}
+use Rattle.channel.specs.Frames.{or_blank, report_in, reports_in, Reads, ReadBack}
 
 -- a report that the reader answers has the numbers that stand there
 formed_numbers : (b : List ℕ) (k : Option ReportKind) (n : ℕ) (r : Report) → report_form b k ≡ Some (record { length = n; value = r })

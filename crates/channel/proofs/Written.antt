@@ -1,9 +1,8 @@
 -- Frames one after another in bytes.
-use Rattle.std.proofs.Common.{◌≡◌, ℕ, zero, suc, ◌+◌, ◌-◌, ◌*◌, ◌<◌, ◌≤◌, List, [], ◌∷◌, ◌++◌, length, get_or, take, drop, Some, None, Ok, Err, sym, refl, ap, ◌∙◌, append-nil, suc-add, zero-add, add-one, arith, length-append, length-drop, take-append-drop, rules}
+use Rattle.std.proofs.Common.{◌≡◌, ℕ, zero, suc, ◌+◌, ◌*◌, ◌≤◌, List, [], ◌∷◌, ◌++◌, length, take, drop, sym, ap, ◌∙◌, append-nil, suc-add, zero-add, arith, length-drop, take-append-drop, rules}
 use lib.Seq.{take-append-le, drop-append-le, take-append_seam}
 use borrow.Rule.Slice.PartMut.{put_mid, post_of}
 use Rattle.std.proofs.lemmas.List.{length-take-le, places}
-use Rattle.types.specs.declared.reports.Report.{Report}
 use Rattle.channel.specs.Frames.{report_in, reports_in}
 
 -- the reports of a front of n frames, and of what stands behind it

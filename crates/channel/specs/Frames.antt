@@ -4,7 +4,6 @@ use Rattle.faults.specs.declared.layers.FrameFault.{FrameFault}
 use Rattle.types.specs.declared.reports.Report.{Report}
 use Rattle.types.specs.declared.reports.ReportKind.TheVariants.{Blank}
 use Rattle.wire.specs.Layouts.{Bytes}
-use Rattle.wire.specs.Reading.{Read}
 use Rattle.wire.specs.Reports.{report_at, read_report}
 
 -- what the frame reader found, or else a blank with the numbers that stand there

@@ -31,8 +31,8 @@ pub trait Channel {
 
 /// Appends all of the reports, or none where there is less space than reports.
 pub fn put_all<C: Channel>(channel: &mut C, reports: &[Report]) -> Result<(), ChannelFault>
-    ensures sent { Sent (list channel.old) (room channel.old) reports.now result (list channel.new) (room channel.new) }
-    ensures follows { follows channel.old channel.new }
+    ensures sent { Sent (C.list channel.old) (C.room channel.old) reports.now result (C.list channel.new) (C.room channel.new) }
+    ensures follows { C.follows channel.old channel.new }
 {
     if channel.space() < reports.len() {
         return Err(ChannelFault::Full);

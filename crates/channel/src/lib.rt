@@ -1,6 +1,8 @@
 //! Where a book's reports go. A channel means a list of reports and its space, the number of further ones that it takes.
 //!
 //! `ReportList` keeps them as records in a lent slice, `ReportBytes` as frames in lent bytes, and `DropCopy` sends each to two channels.
+#![tactic(auto)]
+
 mod bytes;
 mod channel;
 mod copies;

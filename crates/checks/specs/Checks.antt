@@ -1,12 +1,12 @@
 -- The checks of a call's fields, in rising order of the refusals' numbers, each at the field that is wrong.
-use Rattle.std.specs.Prelude.{◌≡◌, ℕ, Bool, true, false, cond, Some, None, Ok, Err, Option, Result}
+use Rattle.std.specs.Prelude.{◌≡◌, Bool, true, false, Some, None, Ok, Err, Option, Result}
 use Rattle.types.specs.declared.money.Lot.{Lot}
 use Rattle.types.specs.declared.money.Price.{Price}
 use Rattle.types.specs.declared.money.Volume.{Volume}
 use Rattle.types.specs.declared.orders.Broker.{Broker}
 use Rattle.types.specs.declared.orders.Entry.{Entry}
 use Rattle.types.specs.declared.orders.OrderKind.{OrderKind}
-use Rattle.types.specs.declared.orders.OrderKind.TheVariants.{Limit, Iceberg, Peg}
+use Rattle.types.specs.declared.orders.OrderKind.TheVariants.{Limit, Peg}
 use Rattle.types.specs.declared.orders.TraderId.{TraderId}
 use Rattle.types.specs.declared.quotes.Quote.{Quote}
 use Rattle.types.specs.declared.calls.Call.{Call}

@@ -1,4 +1,6 @@
 //! The checks of a call's fields, for a call made bare and for one that came as a frame.
+#![tactic(auto)]
+
 ghost use Rattle.std.specs.Prelude.{◌≡◌};
 ghost use Rattle.checks.specs.Values.{is_letter, are_letters, in_range, on_tick, on_half_tick, is_limit, in_lots, is_volume, is_display, is_day, is_iceberg, is_term, is_off, is_paired};
 ghost use Rattle.checks.specs.Checks.{test as tested, trader_check, broker_check, limit_check, volume_check, entry_check, cancel_check, side_check, quote_check, enrol_check, check as checked, Ticks};

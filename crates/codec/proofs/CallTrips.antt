@@ -1,12 +1,7 @@
 -- Calls and their frames, both ways.
-use Rattle.std.proofs.Common.{◌≡◌, ℕ, Bool, List, ◌++◌, Some, None, Ok, Err, Option, Result, sym, refl, ap, ◌∙◌, arith}
+use Rattle.std.proofs.Common.{◌≡◌, ℕ, List, ◌++◌, Some, None, Ok, Err, Option, Result, sym, refl, ap, ◌∙◌, arith}
 use Rattle.types.specs.declared.money.Lot.{Lot}
 use Rattle.types.specs.declared.orders.Entry.{Entry}
-use Rattle.types.specs.declared.orders.Side.{Side}
-use Rattle.types.specs.declared.orders.OrderKind.{OrderKind}
-use Rattle.types.specs.declared.orders.TimeInForce.{TimeInForce}
-use Rattle.types.specs.declared.orders.Marks.{Marks}
-use Rattle.types.specs.declared.orders.StpInstruction.{StpInstruction}
 use Rattle.types.specs.declared.calls.Call.{Call}
 use Rattle.types.specs.declared.calls.Call.TheVariants as call
 use Rattle.types.specs.declared.calls.Enrolment.{Enrolment}
@@ -14,7 +9,7 @@ use Rattle.faults.specs.declared.layers.CallField.{CallField}
 use Rattle.faults.specs.declared.layers.CallField.TheVariants as at
 use Rattle.faults.specs.declared.layers.FieldFault.{FieldFault}
 use Rattle.faults.specs.declared.layers.FrameFault.{FrameFault}
-use Rattle.checks.specs.Checks.{Checked, trader_check, broker_check, check, entry_check, then}
+use Rattle.checks.specs.Checks.{Checked, trader_check, broker_check, check}
 use Rattle.codes.specs.Codes.{side_code, side_of, kind_code, kind_of, term_code, term_of, marks_code, marks_of, instruction_code, instruction_of, flag_code, flag_of}
 use Rattle.wire.specs.declared.frames.CallFrame.{CallFrame}
 use Rattle.wire.specs.declared.frames.CallFrame.TheVariants as frame
@@ -25,7 +20,7 @@ use Rattle.wire.specs.Reading.{Read}
 use Rattle.wire.specs.Frames.{call_bytes, read_call}
 use Rattle.wire.specs.Trips.{Sound}
 use Rattle.wire.proofs.CallTrips.{call_reads, call_written}
-use Rattle.codec.specs.Calls.{and_then, meant, decoded_entry, decoded_enrolment, decoded, encoded, encoded_entry, checked, taken, Received, received}
+use Rattle.codec.specs.Calls.{and_then, meant, decoded_entry, decoded_enrolment, decoded, encoded, encoded_entry, checked, taken, received}
 use Rattle.codec.specs.Trips.{written, SixLetters, Fits}
 use Rattle.codec.proofs.Codes.{side_kept, side_told, kind_kept, kind_told, term_kept, term_told, marks_kept, marks_told, instruction_kept, instruction_told, flag_kept, flag_told}
 use Rattle.codec.proofs.Checked.{first, second, quoted}

@@ -10,14 +10,13 @@ use Rattle.faults.specs.declared.layers.CallField.TheVariants as at
 use Rattle.faults.specs.declared.layers.FrameFault.{FrameFault}
 use Rattle.faults.specs.declared.layers.FieldFault.{FieldFault}
 use Rattle.faults.specs.declared.layers.FieldFault.TheVariants.{Frame, Field}
-use Rattle.checks.specs.Checks.{Checked, trader_check, broker_check, check}
+use Rattle.checks.specs.Checks.{trader_check, broker_check, check}
 use Rattle.codes.specs.Codes.{side_code, side_of, kind_code, kind_of, term_code, term_of, marks_code, marks_of, instruction_code, instruction_of, flag_code, flag_of}
 use Rattle.wire.specs.declared.frames.CallFrame.{CallFrame}
 use Rattle.wire.specs.declared.frames.CallFrame.TheVariants as frame
 use Rattle.wire.specs.declared.frames.EnterFrame.{EnterFrame}
 use Rattle.wire.specs.declared.frames.EnrolFrame.{EnrolFrame}
-use Rattle.wire.specs.Reading.{Read}
-use Rattle.wire.specs.Frames.{call_bytes, read_call}
+use Rattle.wire.specs.Frames.{read_call}
 
 -- one step after another: the first fault ends it
 abbrev pub and_then : {A B : Type 0} → Result A FieldFault → (A → Result B FieldFault) → Result B FieldFault

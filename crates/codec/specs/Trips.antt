@@ -7,7 +7,7 @@ use Rattle.checks.specs.Checks.{check}
 use Rattle.wire.specs.Layouts.{Fit, Bytes}
 use Rattle.wire.specs.Frames.{kind_in, layout, numbers, call_bytes}
 use Rattle.wire.specs.Trips.{Six}
-use Rattle.codec.specs.Calls.{encoded, Received, received}
+use Rattle.codec.specs.Calls.{encoded, received}
 
 abbrev pub written : Call → List ℕ
 written c = call_bytes (encoded c)

@@ -1,4 +1,6 @@
 //! Calls from frames, and frames from calls: the codes and the checks of their fields.
+#![tactic(auto)]
+
 ghost use Rattle.std.specs.Prelude.{◌≡◌};
 ghost use Rattle.codec.specs.Calls.{meant, decoded_entry, decoded_enrolment, decoded, encoded_entry, encoded, Received, received};
 ghost use Rattle.codec.specs.Trips.{CallsRoundTrip};

@@ -1,4 +1,6 @@
 //! The codes by which frames tell the words of an order.
+#![tactic(auto)]
+
 ghost use Rattle.std.specs.Prelude.{◌≡◌, ℕ, Some, Option};
 ghost use Rattle.codes.specs.Codes.{side_code, side_of, kind_code, kind_of, term_code, term_of, marks_code, marks_of, instruction_code, instruction_of, flag_code, flag_of};
 ghost use Rattle.std.proofs.Common.{rules};

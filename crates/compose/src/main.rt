@@ -4,14 +4,17 @@
 //!
 //! Empty lines and lines that begin with `#` are passed over. Every line that is not a call is told on standard error,
 //! and then nothing is written.
+#![tactic(auto)]
+
 mod lines;
 mod parts;
 mod tables;
 
 use crate::lines::read_call;
 use anyhow::anyhow;
-use std::env;
 use std::io::{BufRead, BufReader, Write};
+use std::process::ExitCode;
+use std::{env, io};
 use wire::write_call;
 
 fn refuse_words(rt: &HostRuntime) -> anyhow::Result<()> {
@@ -56,12 +59,12 @@ fn run(rt: &HostRuntime) -> anyhow::Result<()> {
     Ok(())
 }
 
-fn main(rt: HostRuntime) -> anyhow::Result<()> {
+fn main(rt: HostRuntime) -> io::Result<ExitCode> {
     match run(&rt) {
-        Ok(()) => Ok(()),
+        Ok(()) => Ok(ExitCode::SUCCESS),
         Err(error) => {
             eprintln!(rt; "compose: {error}")?;
-            Err(error)
+            Ok(ExitCode::FAILURE)
         }
     }
 }

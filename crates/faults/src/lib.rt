@@ -1,4 +1,6 @@
 //! Why a call is refused: a fault for each layer, and the refusal that it ends in.
+#![tactic(auto)]
+
 mod layers;
 mod refusals;
 

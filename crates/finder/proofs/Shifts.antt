@@ -1,17 +1,16 @@
 -- Keys drawn up to a hole: the cells are sound but for the hole at each step.
-use Rattle.std.proofs.Common.{◌≡◌, ℕ, suc, ◌+◌, ◌-◌, ◌*◌, ◌<◌, ◌≤◌, Bool, true, false, cond, ltb, ◌⊎◌, List, length, get_or, set, Decides, sym, refl, ap, ◌∙◌, subst, inl, inr, mul-le-mul_right, arith, length-set}
+use Rattle.std.proofs.Common.{◌≡◌, ℕ, ◌+◌, ◌*◌, ◌<◌, ◌≤◌, Bool, true, false, cond, ltb, ◌⊎◌, List, length, get_or, set, Decides, sym, refl, ap, ◌∙◌, subst, inl, inr, mul-le-mul_right, arith, length-set}
 use Rattle.std.proofs.lemmas.List.{get_or-set_same, get_or-set_other, get_or_read}
 use Rattle.std.proofs.lemmas.Nat.{mod_below}
 use Rattle.std.proofs.lemmas.Bool.Decides.{nat_tests}
 use Rattle.std.proofs.lemmas.Bool.{cases_eq, cases_lt, cases_Bool}
 use Rattle.cells.specs.declared.cell.Cell.{Cell}
 use Rattle.cells.specs.declared.cell.Cell.TheVariants.{Free, Used}
-use Rattle.finder.specs.declared.shift.Step.{Step}
 use Rattle.finder.specs.declared.shift.Step.TheVariants.{End, Stay, Move}
 use Rattle.cells.specs.Cells.{lookup, taken, at, gap, after, home, Rules, Sound, SoundBut}
 use Rattle.finder.specs.Changes.{step}
 use Rattle.cells.proofs.Rings.{gap_below, gap_same, gap_once_to, gap_nearer, gap_round, gap_apart, gap_over, gap_turned, next_below}
-use Rattle.cells.proofs.Lookups.{free_not_used, used_below, lookup_none, lookup_some, lookup_set}
+use Rattle.cells.proofs.Lookups.{free_not_used, used_below, lookup_some, lookup_set}
 use Rattle.cells.proofs.Counts.{away, off, taken_moved, weigh_moved}
 use Rattle.finder.proofs.Writes.{rules_put, rules_hole}
 

@@ -1,5 +1,5 @@
 -- Writes that keep the cells sound, and what each key finds after them.
-use Rattle.std.proofs.Common.{◌≡◌, ℕ, ◌+◌, ◌<◌, ◌≤◌, Bool, true, false, cond, ◌⊎◌, List, length, set, Some, None, Ok, Decides, Option, sym, refl, ap, ◌∙◌, subst, inl, inr, arith, length-set}
+use Rattle.std.proofs.Common.{◌≡◌, ℕ, ◌+◌, ◌<◌, Bool, false, List, length, set, Some, None, Ok, Decides, Option, sym, refl, ap, ◌∙◌, subst, inl, inr, arith, length-set}
 use Rattle.std.specs.Map.{update}
 use Rattle.std.proofs.lemmas.List.{get_or-set_same, get_or-set_other}
 use Rattle.std.proofs.lemmas.Bool.{cases_eq, cases_Bool, cond-true, cond-false}
@@ -76,31 +76,31 @@ module _ {K V : Type 0} (e : K → K → Bool) (dec : (x y : K) → Decides (e x
       (rules_hole number (length cs) (at cs) (at (set cs i Free)) i (λ j h. get_or-set_other cs i j Free Free h)
       (λ _. ⊥) (λ j. j ≡ i) sound (λ j t x. x) (get_or-set_same cs i Free Free within) refl)
 
-  apart : (q k : K) → e q k ≡ false → k ≡ q → ⊥
-  apart q k h p = let t = (dec q k).1 (sym p) in let z : ◌≡◌ {A = ℕ} 0 1 = cc in omega arith
+  apart : (q k : K) → e k q ≡ false → k ≡ q → ⊥
+  apart q k h p = let t = (dec k q).1 p in let z : ◌≡◌ {A = ℕ} 0 1 = cc in omega arith
 
   -- what each key finds after a write at i of a cell that is k's
   found_put : (k : K) (v : V) → Sound number (set cs i (Used k v)) → ((q : K) (w : V) → (k ≡ q → ⊥) → at cs i ≡ Used q w → ⊥) → (q : K) → lookup e (set cs i (Used k v)) q ≡ update e (lookup e cs) k (Some v) q
   found_put k v after clear q =
-      elim (cases_Bool (e q k)) [
+      elim (cases_Bool (e k q)) [
         | inl t ↦ (
-            let p : q ≡ k = (dec q k).0 t in
-            ap (lookup e (set cs i (Used k v))) p ∙ lookup_some e dec (set cs i (Used k v)) i k v after.once (get_or-set_same cs i (Used k v) Free within) ∙ sym (cond-true (e q k) (Some v) (lookup e cs q) t))
+            let p : q ≡ k = sym ((dec k q).0 t) in
+            ap (lookup e (set cs i (Used k v))) p ∙ lookup_some e dec (set cs i (Used k v)) i k v after.once (get_or-set_same cs i (Used k v) Free within) ∙ sym (cond-true (e k q) (Some v) (lookup e cs q) t))
         | inr t ↦ (
             lookup_set e dec cs i (Used k v) q (λ w h. clear q w (apart q k t) h) (λ w h. apart q k t (cc))
-            ∙ sym (cond-false (e q k) (Some v) (lookup e cs q) t))
+            ∙ sym (cond-false (e k q) (Some v) (lookup e cs q) t))
       ]
 
   -- and after k's cell is set free
   found_free : (k : K) (v : V) → at cs i ≡ Used k v → (q : K) → lookup e (set cs i Free) q ≡ update e (lookup e cs) k None q
   found_free k v here q =
-      elim (cases_Bool (e q k)) [
+      elim (cases_Bool (e k q)) [
         | inl t ↦ (
-            let p : q ≡ k = (dec q k).0 t in
-            ap (lookup e (set cs i Free)) p ∙ lookup_none e dec (set cs i Free) k nowhere ∙ sym (cond-true (e q k) None (lookup e cs q) t))
+            let p : q ≡ k = sym ((dec k q).0 t) in
+            ap (lookup e (set cs i Free)) p ∙ lookup_none e dec (set cs i Free) k nowhere ∙ sym (cond-true (e k q) None (lookup e cs q) t))
         | inr t ↦ (
             lookup_set e dec cs i Free q (λ w h. apart q k t (cc)) (λ w h. free_not_used Free q w refl h)
-            ∙ sym (cond-false (e q k) None (lookup e cs q) t))
+            ∙ sym (cond-false (e k q) None (lookup e cs q) t))
       ]
     where
       nowhere : (j : ℕ) (w : V) → at (set cs i Free) j ≡ Used k w → ⊥

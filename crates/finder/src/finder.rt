@@ -11,9 +11,9 @@ use cells::{Cell, Key, Seek, clear, find, locate, value_at};
 pub struct Full;
 
 fn insert<K: Key, V: Copy>(cells: &mut [Cell<K, V>], key: K, value: V) -> Result<Option<V>, Full>
-    requires { Sound number cells.old }
-    ensures sound { Sound number cells.new }
-    ensures inserted { Inserted equal cells.old key value result cells.new }
+    requires { Sound K.number cells.old }
+    ensures sound { Sound K.number cells.new }
+    ensures inserted { Inserted K.equal cells.old key value result cells.new }
 {
     match locate(cells, &key) {
         Seek::Here(p) => {
@@ -30,9 +30,9 @@ fn insert<K: Key, V: Copy>(cells: &mut [Cell<K, V>], key: K, value: V) -> Result
 }
 
 fn remove<K: Key, V: Copy>(cells: &mut [Cell<K, V>], key: &K) -> Option<V>
-    requires { Sound number cells.old }
-    ensures sound { Sound number cells.new }
-    ensures removed { Removed equal cells.old key.now result cells.new }
+    requires { Sound K.number cells.old }
+    ensures sound { Sound K.number cells.new }
+    ensures removed { Removed K.equal cells.old key.now result cells.new }
 {
     match locate(cells, key) {
         Seek::Here(p) => {
@@ -54,8 +54,8 @@ pub struct Finder<'a, K, V> {
 impl<'a, K: Key, V: Copy> Finder<'a, K, V> {
     /// Sets every place free, whatever the cells hold.
     pub fn clear(&mut self)
-        ensures sound { Sound number self.new.cells.now }
-        ensures none { (q : K) → lookup equal self.new.cells.now q ≡ None }
+        ensures sound { Sound K.number self.new.cells.now }
+        ensures none { (q : K) → lookup K.equal self.new.cells.now q ≡ None }
         ensures taken { taken self.new.cells.now ≡ 0 }
         ensures lent { self.new.cells.ghost_name ≡ self.old.cells.ghost_name }
     {
@@ -64,17 +64,17 @@ impl<'a, K: Key, V: Copy> Finder<'a, K, V> {
 
     /// What the key finds.
     pub fn find(&self, key: &K) -> Option<V>
-        requires { Sound number self.now.cells.now }
-        ensures { result ≡ lookup equal self.now.cells.now key.now }
+        requires { Sound K.number self.now.cells.now }
+        ensures { result ≡ lookup K.equal self.now.cells.now key.now }
     {
         find(self.cells, key)
     }
 
     /// Has the key find the value, and answers what it found before; refused exactly where the key is new and no place is free.
     pub fn insert(&mut self, key: K, value: V) -> Result<Option<V>, Full>
-        requires { Sound number self.old.cells.now }
-        ensures sound { Sound number self.new.cells.now }
-        ensures inserted { Inserted equal self.old.cells.now key value result self.new.cells.now }
+        requires { Sound K.number self.old.cells.now }
+        ensures sound { Sound K.number self.new.cells.now }
+        ensures inserted { Inserted K.equal self.old.cells.now key value result self.new.cells.now }
         ensures lent { self.new.cells.ghost_name ≡ self.old.cells.ghost_name }
     {
         insert(self.cells, key, value)
@@ -82,9 +82,9 @@ impl<'a, K: Key, V: Copy> Finder<'a, K, V> {
 
     /// Has the key find nothing, and answers what it found before.
     pub fn remove(&mut self, key: &K) -> Option<V>
-        requires { Sound number self.old.cells.now }
-        ensures sound { Sound number self.new.cells.now }
-        ensures removed { Removed equal self.old.cells.now key.now result self.new.cells.now }
+        requires { Sound K.number self.old.cells.now }
+        ensures sound { Sound K.number self.new.cells.now }
+        ensures removed { Removed K.equal self.old.cells.now key.now result self.new.cells.now }
         ensures lent { self.new.cells.ghost_name ≡ self.old.cells.ghost_name }
     {
         remove(self.cells, key)

@@ -4,6 +4,8 @@
 //! A removal draws the keys behind it nearer to their homes, so that the place is free again and no search grows longer by it.
 //!
 //! `Sound` says that a search finds every key. Each method but `clear` asks for it, and each that changes the cells keeps it.
+#![tactic(auto)]
+
 mod finder;
 mod shift;
 

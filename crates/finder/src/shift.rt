@@ -24,7 +24,7 @@ fn way(n: usize, a: usize, b: usize) -> usize
 
 fn step_at<K: Key, V: Copy>(cells: &[Cell<K, V>], hole: usize, j: usize) -> Step
     requires { (hole < length cells.now) × (j < length cells.now) }
-    ensures { result ≡ step number (length cells.now) hole j (at cells.now j) }
+    ensures { result ≡ step K.number (length cells.now) hole j (at cells.now j) }
 {
     let n = cells.len();
     let cell = cells[j];
@@ -45,9 +45,9 @@ fn step_at<K: Key, V: Copy>(cells: &[Cell<K, V>], hole: usize, j: usize) -> Step
 pub(crate) fn draw_up<K: Key, V: Copy>(cells: &mut [Cell<K, V>], place: usize)
     requires within { place < length cells.old }
     requires free { at cells.old place ≡ Free }
-    requires sound { SoundBut number place cells.old }
-    ensures sound { Sound number cells.new }
-    ensures finds { (q : K) → lookup equal cells.new q ≡ lookup equal cells.old q }
+    requires sound { SoundBut K.number place cells.old }
+    ensures sound { Sound K.number cells.new }
+    ensures finds { (q : K) → lookup K.equal cells.new q ≡ lookup K.equal cells.old q }
     ensures taken { taken cells.new ≡ taken cells.old }
 {
     let n = cells.len();

@@ -1,4 +1,6 @@
 //! The guard over the order table and its spare copy behind it in one slice.
+#![tactic(auto)]
+
 mod copies;
 mod renumbering;
 

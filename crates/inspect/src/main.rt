@@ -1,10 +1,13 @@
 //! Reads captured call frames from standard input and prints a line for each: what it says, or which refusal it gets.
 //!
 //!     inspect [lot=100|500|1000] < capture.frames
+#![tactic(auto)]
+
 use anyhow::anyhow;
 use codec::next_call;
 use faults::{FieldFault, FrameFault};
-use std::io::{BufWriter, Read, Write};
+use std::io::{BufWriter, IsTerminal, Read, Write};
+use std::process::ExitCode;
 use std::{env, io};
 use types::Lot;
 use wire::FrameReader;
@@ -69,7 +72,7 @@ fn run(rt: &HostRuntime) -> anyhow::Result<()> {
     let lot = read_words(rt)?;
     let mut input = Vec::new(rt.alloc());
     rt.stdin().read_to_end(&mut input)?;
-    let terminal = libc::isatty(2) == 1;
+    let terminal = rt.stderr().is_terminal();
     let mut out = BufWriter::new(rt.alloc(), rt.stdout())?;
     let mut frames = FrameReader::new(input.as_slice());
     let mut count = 0u64;
@@ -98,12 +101,12 @@ fn run(rt: &HostRuntime) -> anyhow::Result<()> {
     Ok(())
 }
 
-fn main(rt: HostRuntime) -> anyhow::Result<()> {
+fn main(rt: HostRuntime) -> io::Result<ExitCode> {
     match run(&rt) {
-        Ok(()) => Ok(()),
+        Ok(()) => Ok(ExitCode::SUCCESS),
         Err(error) => {
             eprintln!(rt; "inspect: {error}")?;
-            Err(error)
+            Ok(ExitCode::FAILURE)
         }
     }
 }

@@ -1,18 +1,18 @@
 -- What the parts of a meeting come to. Assumes nothing.
-use Rattle.std.proofs.Common.{◌≡◌, ℕ, ◌+◌, ◌-◌, ◌<◌, ◌≤◌, min, Bool, true, false, cond, not, ◌&&◌, eqb, ltb, List, [], ◌∷◌, ◌++◌, reverse, Some, None, Option, sym, refl, ap, ◌∙◌, subst, arith}
-use Rattle.std.proofs.lemmas.Bool.{both_ways, ltb-true, ltb-false, lt-ltb}
+use Rattle.std.proofs.Common.{◌≡◌, ℕ, ◌-◌, ◌<◌, ◌≤◌, min, Bool, true, false, cond, ltb, List, [], ◌∷◌, Some, None, sym, refl, ap, ◌∙◌, subst, arith}
+use Rattle.std.proofs.lemmas.Bool.{ltb-true, lt-ltb}
 use Rattle.types.specs.declared.money.Volume.{Volume}
 use Rattle.types.specs.declared.orders.Order.{Order}
 use Rattle.types.specs.declared.orders.RestingOrder.{RestingOrder}
 use Rattle.types.specs.declared.orders.StpInstruction.{StpInstruction}
-use Rattle.types.specs.declared.orders.StpInstruction.TheVariants.{Off, TradeAndSuppress, CancelAndDecrement, CancelNewest, CancelOldest}
+use Rattle.types.specs.declared.orders.StpInstruction.TheVariants.{Off}
 use Rattle.types.specs.declared.reports.Report.{Report}
 use Rattle.types.specs.Reports.{decremented}
 use Rattle.prices.specs.Prices.{View}
-use Rattle.runs.specs.Slices.{Slice, volume_of, volume_in, amount, offered}
-use Rattle.runs.specs.Meetings.{Effect, shares, trade_of, trading, stopped, smaller_out, active_out, resting_out, prevents, by_instruction, meeting}
+use Rattle.runs.specs.Slices.{volume_of, volume_in, offered}
+use Rattle.runs.specs.Meetings.{Effect, shares, trade_of, trading, stopped, smaller_out, by_instruction, meeting}
 use Rattle.runs.specs.Runs.{holding}
-use Rattle.slips.specs.Slips.{less, none, drawn_from, drawn_shown_first, emptied, all_of}
+use Rattle.slips.specs.Slips.{less, none, drawn_from, drawn_shown_first, emptied}
 use Rattle.sheet.specs.Sheets.{Adds}
 use Rattle.sheet.proofs.Sheets.{adds_more}
 use Rattle.matching.specs.Meetings.{slice_from, one_key, ComesTo}

@@ -1,8 +1,8 @@
 -- A run on the table goes as the run on its time list. Assumes nothing.
-use Rattle.std.proofs.Common.{◌≡◌, ℕ, zero, suc, ◌+◌, ◌-◌, ◌*◌, ◌<◌, ◌≤◌, min, Bool, true, false, cond, eqb, ltb, ◌⊎◌, List, [], ◌∷◌, ◌++◌, reverse, length, get_or, set, Some, None, Option, sym, refl, ap, ◌∙◌, subst, inl, inr, arith, length-set}
+use Rattle.std.proofs.Common.{◌≡◌, ℕ, zero, suc, ◌+◌, ◌-◌, ◌*◌, ◌<◌, ◌≤◌, min, Bool, true, false, cond, eqb, ltb, List, [], ◌∷◌, ◌++◌, reverse, length, get_or, set, Some, None, Option, sym, refl, ap, ◌∙◌, subst, arith, length-set}
 use mathlib.Core.List.{reverse-append}
 use lib.ListN.{length-reverse}
-use Rattle.std.proofs.lemmas.Bool.{both_ways, ltb-true, ltb-false, eqb-true, eqb-false}
+use Rattle.std.proofs.lemmas.Bool.{eqb-true, eqb-false}
 use Rattle.types.specs.declared.money.Volume.{Volume}
 use Rattle.types.specs.declared.orders.Order.{Order}
 use Rattle.types.specs.declared.orders.RestingOrder.{RestingOrder}
@@ -11,28 +11,28 @@ use Rattle.types.specs.declared.orders.StpInstruction.TheVariants.{Off, TradeAnd
 use Rattle.types.specs.declared.reports.Report.{Report}
 use Rattle.checks.specs.Values.{is_iceberg}
 use Rattle.prices.specs.Prices.{View}
-use Rattle.priority.specs.Priority.{Rule, Lawful}
-use Rattle.runs.specs.Lists.{At, at_place, foremost, sum_of}
-use Rattle.runs.specs.Slices.{Slice, volume_of, volume_in, amount, slices, ahead}
-use Rattle.runs.specs.Meetings.{Effect, shares, trading, smaller_out, active_out, resting_out, prevents, by_instruction, meeting}
+use Rattle.priority.specs.Priority.{Rule}
+use Rattle.runs.specs.Lists.{at_place, foremost, sum_of}
+use Rattle.runs.specs.Slices.{Slice, volume_of, amount, slices, ahead}
+use Rattle.runs.specs.Meetings.{Effect, shares, trading, smaller_out, prevents, by_instruction, meeting}
 use Rattle.runs.specs.Runs.{Progress, holding, meet, next_slice, in_play, run}
 use Rattle.runs.proofs.Runs.{chosen, falls, run_stop, run_next}
 use Rattle.table.specs.declared.records.OrderRecord.{OrderRecord}
 use Rattle.table.specs.declared.journals.Journal.{Journal}
 use Rattle.table.specs.declared.ends.Ends.{Ends}
-use Rattle.table.specs.Sequence.{blank_record, record_at, rank, resting_of, Distinct, Sequenced}
+use Rattle.table.specs.Sequence.{blank_record, record_at, rank, resting_of, Distinct}
 use Rattle.table.specs.Noting.{Moved}
 use Rattle.table.specs.Places.{Sound}
 use Rattle.table.proofs.Kept.{places}
 use Rattle.table.proofs.Noting.{moved_none, moved_both}
 use Rattle.table.proofs.Resting.{changed, at_rank}
 use Rattle.scan.specs.declared.Candidate.{Candidate}
-use Rattle.scan.specs.Leading.{slice_on, slice_of, may_meet, within_reach, Leads, Leading, below}
+use Rattle.scan.specs.Leading.{slice_on, slice_of}
 use Rattle.scan.proofs.Leading.{live_inside}
 use Rattle.sheet.specs.Sheets.{Adds}
 use Rattle.sheet.proofs.Sheets.{adds_none, adds_more}
-use Rattle.matching.specs.Meetings.{slice_from, ComesTo, met}
-use Rattle.matching.specs.Running.{on_table, SameOrder, SameOrders, MayRest, AllMayRest}
+use Rattle.matching.specs.Meetings.{slice_from, met}
+use Rattle.matching.specs.Running.{on_table, SameOrder, SameOrders, AllMayRest}
 
 -- What a meeting comes to goes by the slice, wherever its order stands.
 pub anywhere : (view : View) (a : Order) (left : ℕ) (s : Slice) → meeting view a left (slice_from s.resting s.hidden) ≡ meeting view a left s

@@ -1,5 +1,5 @@
 -- A run on the order table.
-use Rattle.std.specs.Prelude.{◌≡◌, ℕ, ◌+◌, ◌<◌, ◌≤◌, true, List, [], length}
+use Rattle.std.specs.Prelude.{◌≡◌, ℕ, ◌+◌, ◌<◌, ◌≤◌, true, List, length}
 use Rattle.checks.specs.Values.{is_iceberg}
 use Rattle.types.specs.declared.reports.Report.{Report}
 use Rattle.runs.specs.Slices.{volume_of}

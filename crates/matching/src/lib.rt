@@ -1,4 +1,6 @@
 //! The run of an active order over the order table: meetings with the foremost slices, until the order is used up or no slice is left.
+#![tactic(auto)]
+
 mod meetings;
 
 ghost use Rattle.std.specs.Prelude.{◌≡◌, ℕ, ◌+◌, ◌*◌, ◌^◌, ◌<◌, ◌≤◌, true, List, [], reverse, length, slice_set};

@@ -1,4 +1,6 @@
 //! The words for sides, kinds, terms, marks, flags and the reasons of refusals.
+#![tactic(auto)]
+
 ghost use Rattle.std.specs.Prelude.{◌≡◌};
 ghost use Rattle.names.specs.Names.{side_word, kind_word, term_word, mark_words, flag_word, reason_word};
 

@@ -1,4 +1,6 @@
 //! What an order is worth at a moment, and which order may take which.
+#![tactic(auto)]
+
 ghost use Rattle.std.specs.Prelude.{◌≡◌};
 ghost use Rattle.prices.specs.Prices.{middle as middle_price, no_worse, at_most, at_least, capped, pegged, price as price_at, is_peg, opposite, pegs_agree, crosses, may_take, PricesHold};
 

@@ -1,4 +1,6 @@
 //! Priority: which of two slices an active order meets first.
+#![tactic(auto)]
+
 ghost use Rattle.std.specs.Prelude.{◌≡◌};
 ghost use Rattle.priority.specs.Priority.{Rule, Lawful, or_else, prefer, better, best_price, shown_first, own_broker, attributed, omega_prefers, lynx_prefers, time_only, omega_rule, lynx_rule};
 ghost use Rattle.priority.specs.Rules.{time_only_lawful, omega_lawful, lynx_lawful};

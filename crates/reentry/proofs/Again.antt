@@ -1,6 +1,6 @@
 -- A run from an order's place, and what the table holds at each step of it. Assumes nothing.
-use Rattle.std.proofs.Common.{◌≡◌, ℕ, zero, suc, ◌+◌, ◌-◌, ◌*◌, ◌<◌, ◌≤◌, min, Bool, true, false, cond, ◌&&◌, eqb, ltb, ◌⊎◌, List, [], ◌∷◌, ◌++◌, reverse, length, get_or, set, sym, refl, ap, ◌∙◌, subst, inl, inr, ⊎_elim, arith, length-set, get_or-set_other, get_or-set_same}
-use Rattle.std.proofs.lemmas.Bool.{both_ways, ltb-true, ltb-false, eqb-true, eqb-false}
+use Rattle.std.proofs.Common.{◌≡◌, ℕ, zero, suc, ◌+◌, ◌-◌, ◌<◌, ◌≤◌, min, Bool, true, false, cond, ◌&&◌, eqb, ltb, List, [], ◌∷◌, reverse, length, get_or, set, sym, refl, ap, ◌∙◌, subst, arith, length-set, get_or-set_other, get_or-set_same}
+use Rattle.std.proofs.lemmas.Bool.{both_ways, ltb-true, eqb-true}
 use Rattle.types.specs.declared.orders.Order.{Order}
 use Rattle.types.specs.declared.orders.OrderKind.{OrderKind}
 use Rattle.types.specs.declared.orders.OrderKind.TheVariants.{Limit, Iceberg, Peg}
@@ -12,14 +12,14 @@ use Rattle.prices.specs.Prices.{View}
 use Rattle.priority.specs.Priority.{Rule}
 use Rattle.runs.specs.Lists.{At, at_place, sum_of}
 use Rattle.runs.specs.Slices.{volume_of}
-use Rattle.runs.specs.Runs.{Progress, resting, run, spent, tidied, laid_out}
+use Rattle.runs.specs.Runs.{Progress, run, spent, tidied, laid_out}
 use Rattle.runs.proofs.Lists.{sum_at_place}
-use Rattle.rules.specs.Requotes.{Spot, emptied, put_back, run_at}
+use Rattle.rules.specs.Requotes.{emptied, put_back, run_at}
 use Rattle.table.specs.declared.records.OrderRecord.{OrderRecord}
 use Rattle.table.specs.Sequence.{blank_record, record_at, rank, earlier, resting_of, Distinct}
 use Rattle.table.proofs.Kept.{places}
 use Rattle.table.proofs.Resting.{changed, at_rank}
-use Rattle.matching.specs.Running.{on_table, SameOrder, SameOrders, MayRest, AllMayRest}
+use Rattle.matching.specs.Running.{on_table, SameOrders, MayRest, AllMayRest}
 use Rattle.tidying.specs.Tidying.{Undrawn, Since, DrawnSince}
 use Rattle.reentry.specs.Spots.{spot, book_of, hollow}
 

@@ -1,4 +1,6 @@
 //! A resting order is run again from its place, which it keeps.
+#![tactic(auto)]
+
 ghost use Rattle.std.specs.Prelude.{◌≡◌, ◌+◌, ◌*◌, ◌^◌, ◌<◌, ◌≤◌, min, true, false, [], reverse, length};
 ghost use Rattle.checks.specs.Values.{is_iceberg};
 ghost use Rattle.runs.specs.Slices.{volume_of};

@@ -1,4 +1,6 @@
 //! Lines for reports and for resting orders, in words and dollars.
+#![tactic(auto)]
+
 mod reports;
 mod resting;
 mod told;

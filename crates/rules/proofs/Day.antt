@@ -1,5 +1,5 @@
 -- Every call keeps what holds between the calls, so a day does. Assumes nothing.
-use Rattle.std.proofs.Common.{◌≡◌, ℕ, zero, suc, ◌+◌, ◌-◌, ◌<◌, ◌≤◌, Bool, true, false, cond, not, ◌&&◌, eqb, ltb, ◌⊎◌, List, [], ◌∷◌, ◌++◌, map, reverse, length, Some, None, Ok, Err, filter, Option, sym, refl, ap, ◌∙◌, subst, inl, inr, append_assoc, arith}
+use Rattle.std.proofs.Common.{◌≡◌, ℕ, suc, ◌+◌, ◌≤◌, Bool, true, false, cond, not, eqb, List, [], ◌∷◌, ◌++◌, map, reverse, length, Some, None, Ok, Err, filter, Option, sym, refl, ap, ◌∙◌, subst, append_assoc, arith}
 use mathlib.Core.List.{reverse-cons}
 use Rattle.std.proofs.lemmas.List.{reverse-append, reverse-reverse}
 use Rattle.std.proofs.lemmas.Bool.{eqb-true, eqb-false, cond_both}
@@ -17,7 +17,7 @@ use Rattle.types.specs.declared.reports.CancelReason.TheVariants as why
 use Rattle.types.specs.declared.reports.Report.{Report}
 use Rattle.types.specs.Reports.{cancelled, halted, closed}
 use Rattle.faults.specs.declared.layers.ChannelFault.{ChannelFault}
-use Rattle.checks.specs.Checks.{Checked, quote_check, check}
+use Rattle.checks.specs.Checks.{Checked, check}
 use Rattle.priority.specs.Priority.{Rule, Lawful}
 use Rattle.runs.specs.Lists.{In, sum_of}
 use Rattle.runs.specs.Slices.{volume_of}
@@ -31,7 +31,7 @@ use Rattle.rules.specs.Entering.{numbered, entry_book, enter}
 use Rattle.rules.specs.Requotes.{requoted, requote}
 use Rattle.rules.specs.Calls.{enrolled, broker_of, has_number, cancel, halt, cancelled_at_close, close, enrol, made}
 use Rattle.rules.specs.Refusals.{Ground, first_fault, by_fields, by_state, grounds, room}
-use Rattle.rules.specs.Served.{Outcome, settled, served}
+use Rattle.rules.specs.Served.{settled, served}
 use Rattle.rules.specs.Days.{Day, opening, add, answer, day_of}
 use Rattle.rules.specs.Laws.{FairReport, DayOk, DayLaw}
 use Rattle.rules.proofs.Sound.{AllFair}

@@ -1,5 +1,5 @@
 -- Entering keeps what holds between the calls. Assumes nothing.
-use Rattle.std.proofs.Common.{◌≡◌, ℕ, zero, suc, ◌+◌, ◌-◌, ◌<◌, ◌≤◌, Bool, true, false, cond, not, ◌&&◌, ◌||◌, eqb, ltb, leb, ◌⊎◌, List, [], ◌∷◌, ◌++◌, map, sym, refl, ap, ◌∙◌, subst, inl, inr, arith}
+use Rattle.std.proofs.Common.{◌≡◌, ℕ, zero, suc, ◌+◌, ◌<◌, ◌≤◌, Bool, true, false, cond, eqb, List, [], ◌∷◌, ◌++◌, sym, refl, ap, ◌∙◌, subst, inl, inr, arith}
 use Rattle.std.proofs.lemmas.Bool.{both_ways, eqb-true, eqb-false, cond_both}
 use Rattle.types.specs.declared.orders.Order.{Order}
 use Rattle.types.specs.declared.orders.RestingOrder.{RestingOrder}
@@ -9,16 +9,16 @@ use Rattle.types.specs.declared.quotes.Quote.{Quote}
 use Rattle.types.specs.declared.reports.CancelReason.{CancelReason}
 use Rattle.types.specs.declared.reports.CancelReason.TheVariants as why
 use Rattle.types.specs.declared.reports.Report.{Report}
-use Rattle.types.specs.Reports.{accepted, cancelled}
+use Rattle.types.specs.Reports.{cancelled}
 use Rattle.prices.specs.Prices.{View}
 use Rattle.priority.specs.Priority.{Rule, Lawful}
 use Rattle.runs.specs.Lists.{In, sum_of}
 use Rattle.runs.specs.Slices.{volume_of, takes}
 use Rattle.runs.specs.Meetings.{shares}
-use Rattle.runs.specs.Runs.{Progress, run, tidied, laid_out}
+use Rattle.runs.specs.Runs.{Progress, tidied, laid_out}
 use Rattle.runs.proofs.Lists.{in_append, in_map, map_in, in_sum}
 use Rattle.runs.proofs.Runs.{run_done, after, run_after}
-use Rattle.rules.specs.Accounts.{on, lost_by, entered_by, lost, entered, traded, rests, quote_of}
+use Rattle.rules.specs.Accounts.{on, lost, entered, traded, rests, quote_of}
 use Rattle.rules.specs.Laws.{Quiet}
 use Rattle.rules.specs.States.{Book}
 use Rattle.rules.specs.Entering.{noted, ran, remainder, cut, day_book, ioc_book, killed, fok_book, by_term}

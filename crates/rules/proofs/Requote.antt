@@ -1,5 +1,5 @@
 -- A new quote keeps what holds between the calls. Assumes nothing.
-use Rattle.std.proofs.Common.{◌≡◌, ℕ, zero, suc, ◌+◌, ◌-◌, ◌<◌, ◌≤◌, Bool, true, false, cond, not, ◌&&◌, ◌||◌, eqb, ltb, leb, ◌⊎◌, List, [], ◌∷◌, ◌++◌, map, is_some, Some, None, filter, Option, sym, refl, ap, ◌∙◌, subst, inl, inr, arith}
+use Rattle.std.proofs.Common.{◌≡◌, ℕ, suc, ◌+◌, ◌<◌, ◌≤◌, Bool, true, false, cond, not, ◌&&◌, eqb, ◌⊎◌, List, [], ◌∷◌, map, is_some, Some, None, filter, Option, sym, refl, ap, ◌∙◌, subst, inl, inr, arith}
 use Rattle.std.proofs.lemmas.Bool.{both_ways, eqb-true, eqb-false, cond_both, and_cases, not-false}
 use Rattle.types.specs.declared.money.Price.{Price}
 use Rattle.types.specs.declared.orders.Order.{Order}
@@ -11,15 +11,15 @@ use Rattle.prices.specs.Prices.{View, price}
 use Rattle.priority.specs.Priority.{Rule, Lawful}
 use Rattle.runs.specs.Lists.{In, At, at_place, sum_of}
 use Rattle.runs.specs.Slices.{volume_of, takes}
-use Rattle.runs.specs.Runs.{Progress, run, tidied, laid_out}
+use Rattle.runs.specs.Runs.{Progress, run, tidied}
 use Rattle.runs.proofs.Lists.{in_append, in_map, map_in, in_kept, kept_in, sum_parted, sum_at_place, map_at_place, at_in, at_same, in_at_place, only_one, at_map, at_one, map_at}
 use Rattle.runs.proofs.Runs.{run_done, run_empty, after, run_after}
-use Rattle.rules.specs.Accounts.{on, lost, entered, rests, quote_of}
+use Rattle.rules.specs.Accounts.{on, rests, quote_of}
 use Rattle.rules.specs.Laws.{Quiet}
 use Rattle.rules.specs.States.{State, Book}
-use Rattle.rules.specs.Requotes.{Spot, further, seek, emptied, put_back, run_at, if_resting, run_again, re_enter, to_end, same_price, repriced, numbers, moved_by, requoted}
+use Rattle.rules.specs.Requotes.{Spot, further, seek, emptied, put_back, run_at, if_resting, run_again, re_enter, to_end, same_price, repriced, numbers, requoted}
 use Rattle.rules.proofs.Prices.{takes_parts, crossed, not_itself, post_never, takes_same}
-use Rattle.rules.proofs.Sound.{AllFair, Sound, Known, run_sound}
+use Rattle.rules.proofs.Sound.{Sound, Known, run_sound}
 use Rattle.rules.proofs.Tidied.{rows_of, counted, count, count_tidied, tidied_rests, tidied_in, laid_volume, laid_order}
 use Rattle.rules.proofs.Inv.{Core, Inv, onto, book, Unique, count_rows, on_same, lost_cons, entered_cons, fair_cons}
 use Rattle.rules.proofs.Enter.{Finished}

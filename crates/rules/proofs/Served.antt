@@ -1,5 +1,5 @@
 -- How a call is served, by what speaks against it. Assumes nothing.
-use Rattle.std.proofs.Common.{◌≡◌, ℕ, ◌<◌, ◌≤◌, Bool, true, false, cond, ltb, List, [], ◌∷◌, ◌++◌, length, Some, None, Option, sym, refl, ap, ◌∙◌, subst, arith}
+use Rattle.std.proofs.Common.{◌≡◌, ℕ, ◌<◌, ◌≤◌, Bool, true, false, cond, ltb, List, [], ◌∷◌, ◌++◌, length, Some, None, refl, ap, ◌∙◌, arith}
 use Rattle.std.proofs.lemmas.Bool.{cond-true, cond-false, lt-ltb, le-ltb}
 use Rattle.types.specs.declared.calls.Call.{Call}
 use Rattle.faults.specs.declared.layers.BookFault.TheVariants as book
@@ -7,10 +7,10 @@ use Rattle.faults.specs.declared.layers.ChannelFault.{ChannelFault}
 use Rattle.faults.specs.declared.layers.ChannelFault.TheVariants as channel
 use Rattle.priority.specs.Priority.{Rule}
 use Rattle.rules.specs.declared.SetUp.{SetUp}
-use Rattle.rules.specs.States.{State, Made}
+use Rattle.rules.specs.States.{State}
 use Rattle.rules.specs.Calls.{made}
 use Rattle.rules.specs.Refusals.{Ground, first_fault, grounds, room}
-use Rattle.rules.specs.Served.{Outcome, refused, taken, settled, served}
+use Rattle.rules.specs.Served.{refused, taken, settled, served}
 
 pub fault_first : (gs hs : List Ground) (f : ChannelFault) → first_fault gs ≡ Some f → first_fault (gs ++ hs) ≡ Some f
 fault_first [] hs f e = let z : ◌≡◌ {A = ℕ} 0 1 = cc in absurd (omega arith)

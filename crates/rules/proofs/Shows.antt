@@ -8,7 +8,7 @@ use Rattle.rules.specs.declared.SetUp.{SetUp}
 use Rattle.rules.specs.States.{State, opened}
 use Rattle.rules.specs.Served.{served}
 use Rattle.rules.specs.Days.{Day, opening, answer, day_of, Shows}
-use Rattle.rules.specs.Laws.{DayOk, Goes_on}
+use Rattle.rules.specs.Laws.{GoesOn}
 use Rattle.rules.proofs.Day.{day_law}
 
 -- the calls so far, and one more
@@ -42,7 +42,7 @@ shows_next s rule first d cs c st st' list list' sh a b =
 pub goes_on : (s : SetUp) (rule : Rule) → Lawful rule → (c : Call) (st st' : State) (list list' : List Report)
     → st' ≡ (served s rule st c).state
     → list' ≡ list ++ (served s rule st c).reports
-    → Goes_on s rule c st list st' list'
+    → GoesOn s rule c st list st' list'
 goes_on s rule law c st st' list list' a b first space calls sh =
     (shows_next s rule first (opening space) calls c st st' list list' sh a b, day_law s rule law space (calls ++ (c ∷ [])))
 

@@ -1,5 +1,5 @@
 -- What stays while an order runs. Assumes nothing.
-use Rattle.std.proofs.Common.{◌≡◌, ℕ, zero, suc, ◌+◌, ◌-◌, ◌<◌, ◌≤◌, min, Bool, true, false, cond, not, ◌&&◌, ◌||◌, eqb, ltb, leb, ◌⊎◌, List, [], ◌∷◌, ◌++◌, map, Some, None, Option, sym, refl, ap, ◌∙◌, subst, inl, inr, arith}
+use Rattle.std.proofs.Common.{◌≡◌, ℕ, ◌+◌, ◌<◌, ◌≤◌, min, Bool, true, false, cond, ◌||◌, eqb, ltb, List, [], ◌∷◌, ◌++◌, map, Some, None, Option, sym, refl, ap, ◌∙◌, subst, inl, inr, arith}
 use Rattle.std.proofs.lemmas.Bool.{both_ways, eqb-true, eq-eqb, or_cases, cond_both}
 use Rattle.types.specs.declared.money.Price.{Price}
 use Rattle.types.specs.declared.orders.Order.{Order}
@@ -13,17 +13,17 @@ use Rattle.types.specs.declared.reports.ReportKind.TheVariants as kind
 use Rattle.types.specs.Reports.{side_mark, price_or_zero}
 use Rattle.prices.specs.Prices.{View, price, is_peg, opposite, middle}
 use Rattle.priority.specs.Priority.{Rule, Lawful, better}
-use Rattle.runs.specs.Lists.{In, At, sum_of}
-use Rattle.runs.specs.Slices.{Slice, volume_of, amount, takes, slices, offered, facts, ahead}
+use Rattle.runs.specs.Lists.{In}
+use Rattle.runs.specs.Slices.{Slice, volume_of, amount, takes, offered, ahead}
 use Rattle.runs.specs.Meetings.{Effect, trade_of, trading, smaller_out, prevents, by_instruction, meeting}
 use Rattle.runs.specs.Runs.{Progress, holding, meet, run}
-use Rattle.runs.proofs.Lists.{at_in, in_map, map_in, sum_append, sum_at_place, map_at_place, in_sum, in_sum_le}
+use Rattle.runs.proofs.Lists.{at_in, map_in, sum_append, sum_at_place, map_at_place, in_sum, in_sum_le}
 use Rattle.runs.proofs.Slices.{slice_ok, has_slice, ahead_price}
 use Rattle.runs.proofs.Runs.{Top, run_keep}
-use Rattle.rules.specs.Accounts.{on, lost_by, entered_by, lost, entered, left_by_reports, limit_in_force, rests, quote_of, view_of, active_side, active_of}
-use Rattle.rules.specs.Laws.{at_price, FairTrade, FairReport}
-use Rattle.rules.proofs.Prices.{Takes, takes_parts, not_itself, Fair, fair, peg_middle, Cross, crossed, or_peg}
-use Rattle.rules.proofs.Meetings.{Even, even}
+use Rattle.rules.specs.Accounts.{on, lost_by, entered_by, lost, entered, left_by_reports, limit_in_force, rests, quote_of, active_side}
+use Rattle.rules.specs.Laws.{FairTrade, FairReport}
+use Rattle.rules.proofs.Prices.{takes_parts, not_itself, Fair, fair, peg_middle, Cross, crossed, or_peg}
+use Rattle.rules.proofs.Meetings.{even}
 
 -- each report of the log is fair, with the reports before it
 unfoldable pub AllFair : List Order → List Report → Type 0

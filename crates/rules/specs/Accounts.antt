@@ -1,5 +1,5 @@
 -- What the reports say of orders and of the quote. A log has the newest report first.
-use Rattle.std.specs.Prelude.{ℕ, ◌+◌, ◌-◌, ◌%◌, Bool, cond, List, [], ◌∷◌, Some, None, Option, ◌==◌}
+use Rattle.std.specs.Prelude.{ℕ, ◌+◌, ◌-◌, ◌%◌, cond, List, [], ◌∷◌, None, ◌==◌}
 use Rattle.types.specs.declared.money.Price.{Price}
 use Rattle.types.specs.Reports.{price_unless_zero}
 use Rattle.types.specs.declared.orders.Order.{Order}

@@ -1,12 +1,11 @@
 -- Worked cases, under Omega with a lot of 100.
-use Rattle.std.specs.Prelude.{◌≡◌, ℕ, ◌+◌, Bool, true, false, List, [], ◌∷◌, ◌++◌, map, reverse}
+use Rattle.std.specs.Prelude.{◌≡◌, ℕ, false, List, [], ◌∷◌, ◌++◌, map, reverse}
 use Rattle.types.specs.declared.calls.Call.{Call}
 use Rattle.types.specs.declared.calls.Call.TheVariants.{Enter, Quote as NewQuote, Enrol}
 use Rattle.types.specs.declared.money.Price.{Price}
-use Rattle.types.specs.declared.orders.Entry.{Entry}
 use Rattle.types.specs.declared.orders.OrderNumber.{OrderNumber}
 use Rattle.types.specs.declared.orders.OrderKind.{OrderKind}
-use Rattle.types.specs.declared.orders.OrderKind.TheVariants.{Limit, Iceberg, Peg}
+use Rattle.types.specs.declared.orders.OrderKind.TheVariants.{Limit, Iceberg}
 use Rattle.types.specs.declared.orders.RestingOrder.{RestingOrder}
 use Rattle.types.specs.declared.orders.Side.{Side}
 use Rattle.types.specs.declared.orders.Side.TheVariants.{Buy, Sell}

@@ -1,5 +1,5 @@
 -- Entering an order.
-use Rattle.std.specs.Prelude.{ℕ, suc, Bool, cond, List, [], ◌∷◌, ◌++◌, reverse, ◌==◌}
+use Rattle.std.specs.Prelude.{ℕ, suc, cond, List, [], ◌∷◌, ◌++◌, reverse, ◌==◌}
 use Rattle.types.specs.declared.orders.Broker.{Broker}
 use Rattle.types.specs.declared.orders.Entry.{Entry}
 use Rattle.types.specs.declared.orders.Order.{Order}

@@ -1,5 +1,5 @@
 -- The law of a day.
-use Rattle.std.specs.Prelude.{◌≡◌, ℕ, ◌+◌, ◌<◌, ◌≤◌, Bool, true, ◌||◌, List, [], ◌∷◌, ◌++◌, reverse, Some, ◌≢◌}
+use Rattle.std.specs.Prelude.{◌≡◌, ℕ, ◌+◌, ◌<◌, ◌≤◌, true, ◌||◌, List, [], ◌∷◌, ◌++◌, reverse, Some, ◌≢◌}
 use Rattle.types.specs.declared.calls.Call.{Call}
 use Rattle.types.specs.declared.money.Price.{Price}
 use Rattle.types.specs.declared.orders.Order.{Order}
@@ -82,12 +82,12 @@ DayLaw = (s : SetUp) (rule : Rule) → Lawful rule → (space : ℕ) (calls : Li
 
 -- The law at one call, from the state and the channel's list at its start to those at its end: whatever calls of the day came before,
 -- the day with this call shows what is held now, and has the law.
-abbrev pub Goes_on : SetUp → Rule → Call → State → List Report → State → List Report → Type 0
-Goes_on s rule c st list st' list' =
+abbrev pub GoesOn : SetUp → Rule → Call → State → List Report → State → List Report → Type 0
+GoesOn s rule c st list st' list' =
     (first : List Report) (space : ℕ) (calls : List Call) → Shows first (day_of s rule (opening space) calls) st list
     → Shows first (day_of s rule (opening space) (calls ++ (c ∷ []))) st' list' × DayOk (day_of s rule (opening space) (calls ++ (c ∷ [])))
 
 -- Every call that is served as the rules say carries the law on.
 abbrev pub CallsGoOn : Type 0
 CallsGoOn = (s : SetUp) (rule : Rule) → Lawful rule → (c : Call) (st : State) (list : List Report)
-    → Goes_on s rule c st list (served s rule st c).state (list ++ (served s rule st c).reports)
+    → GoesOn s rule c st list (served s rule st c).state (list ++ (served s rule st c).reports)

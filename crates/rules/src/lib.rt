@@ -1,4 +1,6 @@
 //! The rules of a day: what each call does in each state, and the laws that every day keeps.
+#![tactic(auto)]
+
 ghost use Rattle.std.specs.Prelude.{◌≡◌};
 ghost use Rattle.rules.specs.Cases.{Cases};
 ghost use Rattle.rules.specs.Laws.{DayLaw, CallsGoOn};

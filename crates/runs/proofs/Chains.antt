@@ -1,6 +1,6 @@
 -- The run is the one chain of meetings with foremost slices. Assumes nothing.
-use Rattle.std.proofs.Common.{◌≡◌, ℕ, zero, suc, ◌+◌, ◌<◌, ◌≤◌, Bool, true, false, cond, eqb, ltb, ◌⊎◌, List, [], ◌∷◌, ◌++◌, map, Some, None, Option, sym, refl, ap, ◌∙◌, subst, inl, inr, arith}
-use Rattle.std.proofs.lemmas.Bool.{both_ways, eqb-true, eqb-false}
+use Rattle.std.proofs.Common.{◌≡◌, ℕ, zero, suc, ◌<◌, ◌≤◌, Bool, true, false, cond, eqb, ltb, ◌⊎◌, List, [], ◌∷◌, ◌++◌, map, Some, None, Option, sym, refl, ap, ◌∙◌, subst, inl, inr, arith}
+use Rattle.std.proofs.lemmas.Bool.{both_ways, eqb-true}
 use Rattle.types.specs.declared.orders.Order.{Order}
 use Rattle.types.specs.declared.orders.RestingOrder.{RestingOrder}
 use Rattle.prices.specs.Prices.{View}
@@ -10,7 +10,7 @@ use Rattle.priority.specs.Priority.{Rule, Lawful, swapped, is_first, is_second}
 use Rattle.runs.specs.Lists.{In, At, find, no_one, foremost}
 use Rattle.runs.specs.Slices.{Slice, takes, slice_of, later, slices, taker, facts, offered, ahead}
 use Rattle.runs.specs.Runs.{Progress, meet, next_slice, in_play, run}
-use Rattle.runs.specs.Chains.{OpenTo, Foremost, Over, Chain, OneChain, RunsHold}
+use Rattle.runs.specs.Chains.{OpenTo, Foremost, Over, Chain, RunsHold}
 use Rattle.runs.specs.Chains.Chain.{ends, meets}
 use Rattle.runs.proofs.Lists.{in_append, in_map, in_no_one, at_one, foremost_none, foremost_some}
 use Rattle.runs.proofs.Slices.{slice_is, slice_ok, open_in, ahead_self, ahead_trans}

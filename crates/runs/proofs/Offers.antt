@@ -1,5 +1,5 @@
 -- One pass over the orders finds the foremost slice. Assumes nothing.
-use Rattle.std.proofs.Common.{◌≡◌, ℕ, zero, suc, ◌+◌, ◌<◌, ◌≤◌, Bool, true, false, cond, not, ◌&&◌, ltb, ◌⊎◌, List, [], ◌∷◌, ◌++◌, map, length, Some, None, Option, sym, refl, ap, ◌∙◌, subst, inl, inr, append_assoc, append-nil}
+use Rattle.std.proofs.Common.{◌≡◌, ℕ, suc, Bool, true, false, cond, not, ◌&&◌, ltb, List, [], ◌∷◌, ◌++◌, map, length, Some, None, Option, sym, refl, ap, ◌∙◌, inl, append_assoc, append-nil}
 use Rattle.std.proofs.lemmas.Bool.{both_ways}
 use Rattle.std.proofs.lemmas.List.{map-append}
 use Rattle.types.specs.declared.orders.Order.{Order}
@@ -8,7 +8,7 @@ use Rattle.prices.specs.Prices.{View}
 use Rattle.priority.specs.declared.Ahead.{Ahead}
 use Rattle.priority.specs.declared.Ahead.TheVariants.{First, Second, Level}
 use Rattle.priority.specs.Priority.{Rule, Lawful, swapped, is_first, is_second}
-use Rattle.runs.specs.Lists.{In, find, foremost}
+use Rattle.runs.specs.Lists.{foremost}
 use Rattle.runs.specs.Slices.{Slice, takes, slice_of, later, slices, taker, facts, ahead}
 use Rattle.runs.proofs.Lists.{foremost_none}
 use Rattle.runs.proofs.Slices.{ahead_self, ahead_trans}

@@ -1,16 +1,16 @@
 -- A run, with no count of its meetings. Assumes nothing.
-use Rattle.std.proofs.Common.{◌≡◌, ℕ, zero, suc, ◌+◌, ◌-◌, ◌<◌, ◌≤◌, Bool, true, false, cond, eqb, ◌⊎◌, List, [], ◌∷◌, ◌++◌, map, Some, None, Option, sym, refl, ap, ◌∙◌, subst, inl, inr, append_assoc, arith}
-use Rattle.std.proofs.lemmas.Bool.{both_ways, eqb-true, eqb-false}
+use Rattle.std.proofs.Common.{◌≡◌, ℕ, zero, suc, ◌+◌, ◌<◌, ◌≤◌, Bool, true, false, cond, eqb, List, ◌++◌, Some, None, Option, sym, refl, ap, ◌∙◌, inl, inr, append_assoc, arith}
+use Rattle.std.proofs.lemmas.Bool.{eqb-true, eqb-false}
 use Rattle.types.specs.declared.orders.Order.{Order}
 use Rattle.types.specs.declared.orders.RestingOrder.{RestingOrder}
 use Rattle.types.specs.declared.reports.Report.{Report}
 use Rattle.prices.specs.Prices.{View}
 use Rattle.priority.specs.Priority.{Rule, Lawful}
-use Rattle.runs.specs.Lists.{In, At, foremost, at_place, sum_of}
-use Rattle.runs.specs.Slices.{Slice, volume_of, amount, takes, slices, ahead}
+use Rattle.runs.specs.Lists.{In, At, foremost, sum_of}
+use Rattle.runs.specs.Slices.{Slice, volume_of, takes, slices, ahead}
 use Rattle.runs.specs.Meetings.{Effect, meeting}
 use Rattle.runs.specs.Runs.{Progress, holding, meet, next_slice, meetings, in_play, run}
-use Rattle.runs.proofs.Lists.{at_in, sum_at_place, at_either, foremost_none, foremost_some}
+use Rattle.runs.proofs.Lists.{sum_at_place, at_either, foremost_none, foremost_some}
 use Rattle.runs.proofs.Slices.{slice_ok, has_slice, ahead_self, ahead_trans}
 use Rattle.runs.proofs.Meetings.{less, amount_volume}
 

@@ -1,5 +1,5 @@
 -- What a run is, with no count of its steps: a chain of meetings with the foremost slices.
-use Rattle.std.specs.Prelude.{◌≡◌, ℕ, ◌<◌, true, ◌⊎◌, List, [], ◌∷◌}
+use Rattle.std.specs.Prelude.{◌≡◌, ◌<◌, true, ◌⊎◌, List, [], ◌∷◌}
 use Rattle.types.specs.declared.orders.Order.{Order}
 use Rattle.types.specs.declared.orders.RestingOrder.{RestingOrder}
 use Rattle.priority.specs.declared.Ahead.TheVariants.{First, Level}

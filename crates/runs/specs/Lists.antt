@@ -1,5 +1,5 @@
 -- Words over lists.
-use Rattle.std.specs.Prelude.{◌≡◌, ℕ, zero, suc, ◌+◌, Bool, true, false, cond, not, ◌&&◌, ◌⊎◌, List, [], ◌∷◌, Some, None, Option}
+use Rattle.std.specs.Prelude.{◌≡◌, ℕ, zero, suc, ◌+◌, Bool, true, cond, not, ◌&&◌, ◌⊎◌, List, [], ◌∷◌, Some, None, Option}
 
 -- x is on the list
 abbrev pub In : {X : Type 0} → X → List X → Type 0

@@ -1,15 +1,12 @@
 -- One pass over the table finds the slice that leads, and that is the foremost one of the time list. Assumes nothing.
-use Rattle.std.proofs.Common.{◌≡◌, ℕ, zero, suc, ◌+◌, ◌<◌, ◌≤◌, Bool, true, false, cond, ◌&&◌, ltb, ◌⊎◌, List, [], ◌∷◌, length, get_or, Some, None, Option, sym, refl, ap, ◌∙◌, subst, inl, inr, arith}
+use Rattle.std.proofs.Common.{◌≡◌, ℕ, zero, suc, ◌+◌, ◌<◌, Bool, true, false, cond, ◌&&◌, ltb, ◌⊎◌, List, [], ◌∷◌, length, get_or, Some, None, Option, sym, refl, ap, ◌∙◌, subst, inl, inr, arith}
 use Rattle.std.proofs.lemmas.Bool.{both_ways, ltb-true, ltb-false, lt-ltb}
 use Rattle.types.specs.declared.orders.Order.{Order}
-use Rattle.types.specs.declared.orders.RestingOrder.{RestingOrder}
 use Rattle.prices.specs.Prices.{View}
 use Rattle.priority.specs.declared.Ahead.{Ahead}
 use Rattle.priority.specs.declared.Ahead.TheVariants.{First, Second, Level}
-use Rattle.priority.specs.declared.SliceFacts.{SliceFacts}
-use Rattle.priority.specs.declared.Taker.{Taker}
 use Rattle.priority.specs.Priority.{Rule, Lawful, swapped, is_second}
-use Rattle.runs.specs.Lists.{In, At, foremost}
+use Rattle.runs.specs.Lists.{At, foremost}
 use Rattle.runs.specs.Slices.{Slice, volume_in, takes, taker, facts, slices, ahead, offered}
 use Rattle.runs.specs.Runs.{Progress}
 use Rattle.runs.specs.Chains.{OpenTo, Foremost}

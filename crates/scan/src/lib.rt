@@ -1,4 +1,6 @@
 //! The search for the slice that an active order meets next: one pass over the order table.
+#![tactic(auto)]
+
 ghost use Rattle.std.specs.Prelude.{◌≡◌, ◌<◌, ◌≤◌, length};
 ghost use Rattle.runs.specs.Lists.{foremost};
 ghost use Rattle.runs.specs.Slices.{slices, taker as taker_of, ahead, offered};

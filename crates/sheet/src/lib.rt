@@ -1,4 +1,6 @@
 //! The event sheet: the lent memory that a call's reports are written to as it goes.
+#![tactic(auto)]
+
 ghost use Rattle.std.specs.Prelude.{◌≡◌, [], ◌∷◌, ◌+◌, ◌<◌, ◌≤◌, ◌^◌, leb, length, set};
 ghost use Rattle.sheet.specs.Sheets.{sheet_of, Holds, Adds, BlankBeyond, blanked};
 

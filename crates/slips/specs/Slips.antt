@@ -1,5 +1,5 @@
 -- What leaves an order, and what stays of it.
-use Rattle.std.specs.Prelude.{ℕ, ◌+◌, ◌-◌, Bool, cond}
+use Rattle.std.specs.Prelude.{◌+◌, ◌-◌, Bool, cond}
 use Rattle.types.specs.declared.money.Volume.{Volume}
 use Rattle.types.specs.declared.orders.OrderNumber.{OrderNumber}
 use Rattle.types.specs.declared.orders.RestingOrder.{RestingOrder}

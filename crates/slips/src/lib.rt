@@ -1,4 +1,6 @@
 //! Volume that leaves an order comes as a slip, which only a report takes back.
+#![tactic(auto)]
+
 ghost use Rattle.std.specs.Prelude.{◌≡◌, ◌+◌, ◌<◌, ◌≤◌, ◌^◌};
 ghost use Rattle.types.specs.Reports.{trade, cancelled, decremented};
 ghost use Rattle.slips.specs.Slips.{slip_of, less, none, volume_in, drawn_from, drawn_shown_first, emptied, all_of};

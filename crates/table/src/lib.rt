@@ -1,4 +1,6 @@
 //! The order table: records at places that stay put, in time sequence by their priority timestamps.
+#![tactic(auto)]
+
 mod ends;
 mod journals;
 mod records;

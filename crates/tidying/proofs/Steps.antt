@@ -1,8 +1,7 @@
 -- Each step of the tidying leaves the time list that comes of it as it is. Assumes nothing.
-use Rattle.std.proofs.Common.{◌≡◌, ℕ, zero, suc, ◌+◌, ◌-◌, ◌%◌, ◌<◌, ◌≤◌, min, Bool, true, false, cond, not, ◌&&◌, eqb, ltb, ◌⊎◌, List, [], ◌∷◌, ◌++◌, map, length, get_or, set, filter, sym, refl, ap, ◌∙◌, subst, inl, inr, append_assoc, append-nil, mod-lt, arith, length-set}
+use Rattle.std.proofs.Common.{◌≡◌, ℕ, suc, ◌+◌, ◌-◌, ◌%◌, ◌<◌, ◌≤◌, min, Bool, true, false, cond, not, ◌&&◌, eqb, ltb, ◌⊎◌, List, [], ◌∷◌, ◌++◌, map, length, get_or, set, filter, sym, refl, ap, ◌∙◌, subst, inl, inr, append_assoc, append-nil, mod-lt, arith}
 use Rattle.std.specs.List.{remove}
-use Rattle.std.proofs.lemmas.Bool.{both_ways, ltb-true, ltb-false, lt-ltb, eqb-true, eqb-false}
-use Rattle.types.specs.declared.orders.Order.{Order}
+use Rattle.std.proofs.lemmas.Bool.{both_ways, ltb-true, ltb-false, lt-ltb, eqb-true}
 use Rattle.types.specs.declared.orders.RestingOrder.{RestingOrder}
 use Rattle.checks.specs.Values.{is_iceberg}
 use Rattle.runs.specs.Lists.{sum_of}
@@ -15,9 +14,9 @@ use Rattle.table.proofs.Ranks.{rank_later}
 use Rattle.table.proofs.Ranks as ranks
 use Rattle.table.proofs.Turns as turns
 use Rattle.table.proofs.Resting as list
-use Rattle.matching.specs.Running.{SameOrder, SameOrders, MayRest, AllMayRest}
+use Rattle.matching.specs.Running.{SameOrders, MayRest, AllMayRest}
 use Rattle.scan.proofs.Leading.{live_inside}
-use Rattle.tidying.specs.Tidying.{fresh, undrawn, renewed, spends, settled, to_tidy, Undrawn, Since, DrawnSince, Settled, Oldest}
+use Rattle.tidying.specs.Tidying.{fresh, undrawn, renewed, spends, settled, to_tidy, Undrawn, DrawnSince, Settled, Oldest}
 use Rattle.tidying.proofs.Kept.{kept_removed, kept_set, kept_first, kept_last, kept_not_last, kept_all, kept_none, set_self, sum_set, sum_few}
 
 abbrev spent_one : OrderRecord → Bool

@@ -1,4 +1,6 @@
 //! After a run: used-up orders leave the table, and spent icebergs are refreshed and go to the end of the time list.
+#![tactic(auto)]
+
 ghost use Rattle.std.specs.Prelude.{◌≡◌, ℕ, ◌+◌, ◌^◌, ◌<◌, ◌≤◌, min, true, false, List, length, slice_set};
 ghost use Rattle.checks.specs.Values.{is_iceberg};
 ghost use Rattle.runs.specs.Runs.{spent, tidied};

@@ -1,4 +1,6 @@
 //! Orders of the table in their turn: picked in time sequence, moved to the end, cancelled.
+#![tactic(auto)]
+
 mod cancelling;
 mod collecting;
 mod moving;

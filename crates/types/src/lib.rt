@@ -1,4 +1,6 @@
 //! The words of the book: money, orders, quotes, calls and reports.
+#![tactic(auto)]
+
 mod calls;
 mod money;
 mod orders;

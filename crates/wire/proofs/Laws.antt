@@ -2,7 +2,7 @@
 use Rattle.std.proofs.Common.{◌≡◌, ℕ, zero, suc, ◌+◌, ◌*◌, ◌/◌, ◌%◌, ◌<◌, ◌≤◌, List, [], ◌∷◌, ◌++◌, length, get_or, take, drop, sym, refl, ap, ◌∙◌, append_assoc, add-one, arith, length-append, drop-cons, get_or-append-add}
 use lib.Seq.{get_or-append_seam}
 use Rattle.std.proofs.lemmas.Nat.{shr-shr, div-add-mod'}
-use Rattle.wire.specs.Layouts.{be16, be32, Width, one, two, four, size, limit, number, bytes, total, fields, laid, Fit, Bytes}
+use Rattle.wire.specs.Layouts.{Width, one, two, four, size, limit, number, bytes, total, fields, laid, Fit, Bytes}
 
 pub joined : (n : ℕ) → n < 4294967296 → n / 16777216 % 256 * 16777216 + n / 65536 % 256 * 65536 + n / 256 % 256 * 256 + n % 256 ≡ n
 joined n h =

@@ -1,13 +1,13 @@
 -- The frames of reports, both ways.
-use Rattle.std.proofs.Common.{◌≡◌, ℕ, ◌+◌, ◌<◌, ◌≤◌, List, ◌++◌, length, get_or, drop, Some, None, Ok, Err, Option, sym, refl, ap, ◌∙◌, arith}
+use Rattle.std.proofs.Common.{◌≡◌, ℕ, ◌+◌, ◌<◌, ◌≤◌, List, ◌++◌, length, get_or, drop, Some, None, Ok, Option, sym, refl, ap, ◌∙◌, arith}
 use Rattle.std.proofs.lemmas.Bool.Decides.{nat_tests}
 use Rattle.types.specs.declared.reports.Report.{Report}
 use Rattle.types.specs.declared.reports.ReportKind.{ReportKind}
 use Rattle.types.specs.declared.reports.ReportKind.TheVariants as kind
 use Rattle.wire.specs.Layouts.{fields, Fit, Bytes}
-use Rattle.wire.specs.Reading.{announced, framed, Form, Read}
+use Rattle.wire.specs.Reading.{announced, Form}
 use Rattle.wire.specs.Reports.{report_code, report_kind, report_layout, report_numbers, report_bytes, report_from, report_at, report_form, read_report}
-use Rattle.wire.proofs.Trips.{Stands, stands, framed_reads, Was, was_read, stood}
+use Rattle.wire.proofs.Trips.{Stands, stands, framed_reads, was_read, stood}
 
 coded : (k : ReportKind) → (k ≡ kind.Blank → ⊥) → report_kind (report_code k) ≡ Some k
 coded kind.Blank h = absurd (h refl)

@@ -1,13 +1,13 @@
 -- Frames written and read, and read and written, for any form of frame.
-use Rattle.std.proofs.Common.{◌≡◌, ℕ, ◌+◌, ◌*◌, ◌/◌, ◌%◌, ◌<◌, ◌≤◌, Bool, true, false, cond, eqb, ltb, List, [], ◌∷◌, ◌++◌, length, get_or, take, drop, Some, None, Ok, Err, Option, Result, sym, refl, ap, ◌∙◌, subst, arith, length-append, take-append-drop}
+use Rattle.std.proofs.Common.{◌≡◌, ℕ, ◌+◌, ◌<◌, ◌≤◌, Bool, true, false, cond, eqb, List, [], ◌∷◌, ◌++◌, length, get_or, take, drop, Some, None, Ok, Err, Option, Result, sym, refl, ap, ◌∙◌, arith, length-append, take-append-drop}
 use Rattle.std.proofs.lemmas.List.{drop_at}
 use Rattle.std.proofs.lemmas.Bool.Decides.{nat_tests}
 use Rattle.faults.specs.declared.layers.FrameFault.{FrameFault}
 use Rattle.faults.specs.declared.layers.FrameFault.TheVariants as fault
 use Rattle.wire.specs.declared.reader.Head.{Head}
 use Rattle.wire.specs.declared.reader.Head.TheVariants.{Ended, Cut, Whole}
-use Rattle.wire.specs.Layouts.{Width, one, two, four, be16, be32, size, bytes, total, fields, laid, Fit, Bytes}
-use Rattle.wire.specs.Reading.{header, announced, framed, head_of, Form, version_check, formed, after, whole, found, Read, read_at, read}
+use Rattle.wire.specs.Layouts.{Width, one, two, four, be16, size, bytes, total, fields, laid, Fit, Bytes}
+use Rattle.wire.specs.Reading.{header, announced, framed, head_of, Form, version_check, formed, after, found, read_at, read}
 use Rattle.wire.proofs.Laws.{laid_again, read_again}
 
 head_is : (b : List ℕ) (n : ℕ) → be16 b 0 ≡ n → 4 ≤ length b → n + 2 ≤ length b → head_of b ≡ Whole n

@@ -6,7 +6,6 @@ use Rattle.types.specs.Reports.{price_or_zero, price_unless_zero}
 use Rattle.wire.specs.declared.frames.CallKind.{CallKind}
 use Rattle.wire.specs.declared.frames.CallKind.TheVariants as kind
 use Rattle.wire.specs.declared.frames.EnterFrame.{EnterFrame}
-use Rattle.wire.specs.declared.frames.EnrolFrame.{EnrolFrame}
 use Rattle.wire.specs.declared.frames.CallFrame.{CallFrame}
 use Rattle.wire.specs.declared.frames.CallFrame.TheVariants as frame
 use Rattle.wire.specs.Layouts.{Width, one, two, four, fields}

@@ -1,6 +1,6 @@
 -- Numbers one after another in bytes, each big-endian in a field of one, two or four bytes.
 use Rattle.std.specs.Prelude.{◌≡◌, ℕ, ◌+◌, ◌*◌, ◌/◌, ◌%◌, ◌<◌, ◌≤◌, List, [], ◌∷◌, ◌++◌, length, take, drop, slice_index}
-use Rattle.std.specs.List.{AllByRecursion as All}
+use Rattle.std.specs.List.{AllByRecursion}
 
 -- the number of two bytes, and of four, from the place i on
 abbrev pub be16 : List ℕ → ℕ → ℕ
@@ -60,7 +60,7 @@ Fit (w ∷ ws) [] = ⊥
 Fit (w ∷ ws) (v ∷ vs) = (v < limit w) × Fit ws vs
 
 abbrev pub Bytes : List ℕ → Type 0
-Bytes b = All (λ x. x < 256) b
+Bytes b = AllByRecursion (λ x. x < 256) b
 
 -- A layout holds its numbers: what is read and laid again is what stood there, and what is laid and read again is what was laid.
 pub record Layouts : Type 0 where

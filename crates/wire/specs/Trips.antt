@@ -7,7 +7,6 @@ use Rattle.types.specs.declared.reports.ReportKind.TheVariants.{Blank}
 use Rattle.wire.specs.declared.frames.CallFrame.{CallFrame}
 use Rattle.wire.specs.declared.frames.CallFrame.TheVariants as frame
 use Rattle.wire.specs.Layouts.{Fit, Bytes}
-use Rattle.wire.specs.Reading.{Read}
 use Rattle.wire.specs.Frames.{kind_in, layout, numbers, call_bytes, read_call}
 use Rattle.wire.specs.Reports.{report_layout, report_numbers, report_bytes, read_report}
 use Rattle.types.specs.Reports.{price_or_zero, price_unless_zero}

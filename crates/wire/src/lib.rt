@@ -1,4 +1,6 @@
 //! Frames of calls and reports: bytes to numbers and back.
+#![tactic(auto)]
+
 mod bytes;
 mod frames;
 mod reader;

@@ -1,3 +1,5 @@
 //! Tests of the outer layer: calls, frames, refusals and reports on examples.
+#![tactic(auto)]
+
 #[cfg(test)]
 mod tests;

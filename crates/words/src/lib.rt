@@ -1,4 +1,6 @@
 //! What is printed of money, orders, calls and refusals.
+#![tactic(auto)]
+
 mod lines;
 mod money;
 

@@ -1,4 +1,4 @@
-use Rattle.std.proofs.Common.{◌≡◌, ℕ, sym, refl, ap, ◌∙◌, subst}
+use Rattle.std.proofs.Common.{ℕ, sym, ap, ◌∙◌, subst}
 use Rattle.types.specs.declared.money.Volume.{Volume}
 use Rattle.runs.specs.Meetings.{shares}
 use Rattle.matching.proofs.Going.{Going, sound_same, rest_same, shrinks_to, going_on, ends_used, ends_none, end_left, end_list, end_adds}

@@ -1,4 +1,4 @@
-use Rattle.std.proofs.Common.{◌≡◌, ℕ, List, set, sym, refl, ap, ◌∙◌, subst, arith}
+use Rattle.std.proofs.Common.{List, set, sym, refl, ap, ◌∙◌, subst, arith}
 use Rattle.types.specs.declared.money.Volume.{Volume}
 use Rattle.types.specs.declared.orders.RestingOrder.{RestingOrder}
 use Rattle.runs.specs.Slices.{volume_of}
@@ -8,7 +8,7 @@ use Rattle.table.specs.Places.{Sound}
 use Rattle.table.proofs.Noting.{moved_both}
 use Rattle.table.proofs.Places.{sound_changed}
 use Rattle.reentry.specs.Spots.{hollow}
-use Rattle.reentry.proofs.Again.{list₁, play₁, rest₁, live₂, time₂, within₂, list₃, rest₃, since₃, log_is, list_is, adds_log}
+use Rattle.reentry.proofs.Again.{play₁, rest₁, live₂, time₂, within₂, list₃, rest₃, since₃, log_is, list_is, adds_log}
 use Rattle.reentry.proofs.re_enter.Goals as goal
 
 pub run-left-requires : goal.run-left-requires
@@ -35,7 +35,7 @@ tidy-requires g c =
     let left = c.run-left.result.shares in
     let r = record_at os₀ i in
     let is₁ = c.write.ensures.table ∙ ap (set os₀ i) c.hollowed.ensures in
-    let is₃ = c.write-2.ensures.table ∙ ap (λ (o : RestingOrder). set os₂ i (record { live = r.live; time = r.time; drawn = r.drawn; resting = o })) c.after-run-after.ensures in
+    let is₃ = c.write-2.ensures.table ∙ ap (λ (o : RestingOrder). set os₂ i (record { live = r.live; time = r.time; drawn = r.drawn; resting = o })) c.after_run-after.ensures in
     let distinct = c.requires.sound.sequenced.distinct in
     let same = c.run-left.ensures.same in
     let ran = c.run-left.ensures.sound in
@@ -59,7 +59,7 @@ returns g c =
     let left = c.run-left.result.shares in
     let r = record_at os₀ i in
     let is₁ = c.write.ensures.table ∙ ap (set os₀ i) c.hollowed.ensures in
-    let is₃ = c.write-2.ensures.table ∙ ap (λ (o : RestingOrder). set os₂ i (record { live = r.live; time = r.time; drawn = r.drawn; resting = o })) c.after-run-after.ensures in
+    let is₃ = c.write-2.ensures.table ∙ ap (λ (o : RestingOrder). set os₂ i (record { live = r.live; time = r.time; drawn = r.drawn; resting = o })) c.after_run-after.ensures in
     let distinct = c.requires.sound.sequenced.distinct in
     let same = c.run-left.ensures.same in
     let ran = c.run-left.ensures.sound in

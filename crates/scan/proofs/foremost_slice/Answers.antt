@@ -1,4 +1,4 @@
-use Rattle.std.proofs.Common.{◌≡◌, ℕ, ◌+◌, ◌≤◌, Option, sym, subst, arith}
+use Rattle.std.proofs.Common.{◌≡◌, ℕ, ◌+◌, Option, sym, subst, arith}
 use Rattle.scan.specs.declared.Candidate.{Candidate}
 use Rattle.scan.specs.Leading.{Leading, below}
 use Rattle.scan.proofs.Leading.{visit_step, leading_foremost}

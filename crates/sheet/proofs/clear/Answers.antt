@@ -1,5 +1,4 @@
 use mathlib.Core.Path.{◌∙◌}
-use lib.ListN.{length}
 use Rattle.sheet.proofs.Sheets.{blanked_all, blanked_rest}
 use Rattle.sheet.proofs.clear.Goals as goal
 

@@ -3,6 +3,6 @@ use Rattle.table.proofs.first_free.Goals as goal
 
 pub returns : goal.returns
 returns c =
-    let r = c.scan-free.result in
-    let f = c.scan-free.ensures in
+    let r = c.scan_free.result in
+    let f = c.scan_free.ensures in
     record { found = f; room = room c.args.orders.now r f }

@@ -1,4 +1,4 @@
-use Rattle.std.proofs.Common.{◌≡◌, ◌<◌, length, sym, refl, ap, ◌∙◌, subst, arith}
+use Rattle.std.proofs.Common.{◌<◌, length, sym, ap, ◌∙◌, arith}
 use Rattle.table.proofs.Noting.{moved_both}
 use Rattle.tidying.specs.Tidying.{to_tidy}
 use Rattle.tidying.proofs.Steps.{settled_tidy, all_rest, all_settled, all_above}

@@ -1,20 +1,18 @@
-use Rattle.std.proofs.Common.{◌≡◌, ◌+◌, ◌^◌, ◌<◌, ◌≤◌, length, sym, refl, ap, ◌∙◌, subst, arith}
-use Rattle.table.specs.Sequence.{record_at}
+use Rattle.std.proofs.Common.{sym, refl, ◌∙◌, arith}
 use Rattle.table.proofs.Noting.{moved_none, moved_both}
 use Rattle.scan.proofs.Leading.{live_inside}
-use Rattle.tidying.specs.Tidying.{to_tidy}
-use Rattle.tidying.proofs.Steps.{tidied_is, tidy_end, few_spent, count_spent, renewed_all_rest, renewed_all_settled, renewed_count, renewed_list, display_here, live_here, none_spent, end_undrawn, some_spent}
+use Rattle.tidying.proofs.Steps.{tidied_is, tidy_end, few_spent, renewed_all_rest, renewed_all_settled, renewed_count, renewed_list, display_here, live_here, none_spent, end_undrawn, some_spent}
 use Rattle.tidying.proofs.tidy.Goals as goal
 
 pub loop-i-init : goal.loop-i-init
 loop-i-init c =
-    let e = c.settle-all.ensures in (
+    let e = c.settle_all.ensures in (
       e.sound,
       e.rest,
       refl,
       e.settled,
-      omega (arith, few_spent c.settle-all.new.orders, e.sound.small),
-      moved_none c.settle-all.new.orders c.settle-all.new.journal,
+      omega (arith, few_spent c.settle_all.new.orders, e.sound.small),
+      moved_none c.settle_all.new.orders c.settle_all.new.journal,
     )
 
 pub refresh-requires : goal.refresh-requires
@@ -27,7 +25,7 @@ refresh-requires c =
       sound = inv.0;
       within = live_inside os c.in-Some.i (live_here os c.in-Some.i o.here);
       display = display_here os c.in-Some.i o.here inv.1;
-      times = omega (arith, some, inv.4, c.settle-all.ensures.times, c.requires.times);
+      times = omega (arith, some, inv.4, c.settle_all.ensures.times, c.requires.times);
     }
 
 pub loop-i-smaller : goal.loop-i-smaller
@@ -48,21 +46,21 @@ loop-i-preserved c =
       renewed_list os os' c.in-Some.i c.loop-i.ends.next o.here inv.1 is c.loop-i.ends.high inv.0.sequenced.distinct inv.0.sequenced.older inv.0.above o ∙ inv.2,
       renewed_all_settled os os' c.in-Some.i c.loop-i.ends.next o.here inv.1 is inv.3,
       omega (arith, less, inv.4, c.refresh.ensures.times),
-      moved_both c.settle-all.new.orders os os' c.settle-all.new.journal c.loop-i.journal c.refresh.new.journal (sym c.loop-i.auto.orders) inv.5 c.refresh.ensures.moved,
+      moved_both c.settle_all.new.orders os os' c.settle_all.new.journal c.loop-i.journal c.refresh.new.journal (sym c.loop-i.auto.orders) inv.5 c.refresh.ensures.moved,
     )
 
 pub returns : goal.returns
 returns c =
     let os = c.loop-i.orders in
     let inv = c.loop-i.invariant in
-    let none = none_spent os c.loop-i.ends.high inv.0.above c.in-default.ensures in
+    let none = none_spent os c.loop-i.ends.high inv.0.above c.in_default.ensures in
     record {
       list = λ before since.
-          sym (tidy_end os inv.0.sequenced.distinct inv.3 none) ∙ inv.2 ∙ c.settle-all.ensures.list
+          sym (tidy_end os inv.0.sequenced.distinct inv.3 none) ∙ inv.2 ∙ c.settle_all.ensures.list
           ∙ sym (tidied_is before c.args.orders.now since);
       undrawn = end_undrawn os inv.3 none;
       sound = inv.0;
       rest = inv.1;
-      times = omega (arith, inv.4, c.settle-all.ensures.times);
-      moved = moved_both c.args.orders.now c.settle-all.new.orders os c.args.journal.now c.settle-all.new.journal c.loop-i.journal (sym c.settle-all.auto.orders) c.settle-all.ensures.moved inv.5;
+      times = omega (arith, inv.4, c.settle_all.ensures.times);
+      moved = moved_both c.args.orders.now c.settle_all.new.orders os c.args.journal.now c.settle_all.new.journal c.loop-i.journal (sym c.settle_all.auto.orders) c.settle_all.ensures.moved inv.5;
     }

@@ -1,4 +1,4 @@
-use Rattle.std.proofs.Common.{◌≡◌, ℕ, ◌+◌, ◌<◌, ◌≤◌, true, false}
+use Rattle.std.proofs.Common.{◌≡◌, ℕ, ◌+◌, ◌≤◌, true}
 use Rattle.table.specs.Sequence.{record_at}
 use Rattle.table.specs.Noting.{Moved}
 use Rattle.table.specs.Places.{Sound}

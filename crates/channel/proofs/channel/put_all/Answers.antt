@@ -4,7 +4,7 @@ use Rattle.channel.proofs.channel.put_all.Goals as goal
 
 pub loop-i-preserved : goal.loop-i-preserved
 loop-i-preserved g c =
-    let p = c.in-ok-put.ensures.sent in
+    let p = c.in_ok-put.ensures.sent in
     let h : c.loop-i.i < length c.args.reports.now = omega arith in (
       omega arith,
       sent_more _ _ _ _ _ _ h c.loop-i.invariant.1 p.1,

@@ -4,8 +4,8 @@ use Rattle.cells.specs.declared.cell.Cell.TheVariants.{Free}
 use Rattle.finder.proofs.Writes.{sound_hole, here_removed}
 use Rattle.finder.proofs.finder.remove.Goals as goal
 
-pub draw-up-requires : goal.draw-up-requires
-draw-up-requires g c =
+pub draw_up-requires : goal.draw_up-requires
+draw_up-requires g c =
     let s = c.in-Here.ensures in
     record {
       within = subst (λ m. c.in-Here.p < m) (sym (length-set c.args.cells.now c.in-Here.p Free)) s.0;
@@ -16,8 +16,8 @@ draw-up-requires g c =
 pub returns-in-Here : goal.returns-in-Here
 returns-in-Here g c =
     let s = c.in-Here.ensures in
-    let d = c.draw-up.ensures in
+    let d = c.draw_up.ensures in
     record {
       sound = d.sound;
-      removed = here_removed g.K.Key.equal g.met.K.Key.decides g.K.Key.number c.args.cells.now c.in-Here.p s.0 c.requires c.args.key.now s.1.0 c.value-at-old.result c.draw-up.new.cells s.1.1 s.1.2 c.value-at-old.ensures d.finds d.taken;
+      removed = here_removed g.K.Key.equal g.met.K.Key.decides g.K.Key.number c.args.cells.now c.in-Here.p s.0 c.requires c.args.key.now s.1.0 c.value_at-old.result c.draw_up.new.cells s.1.1 s.1.2 c.value_at-old.ensures d.finds d.taken;
     }

@@ -4,7 +4,7 @@ use Rattle.guard.proofs.copies.restore_whole.Goals as goal
 
 pub returns : goal.returns
 returns c =
-    let after = c.copy-within.ensures.after in
+    let after = c.copy_within.ensures.after in
     let p = c.requires in
     record {
       front = ap (take c.args.n) after ∙ restored_front c.args.all.now c.args.n c.args.high p.long p.high p.above;

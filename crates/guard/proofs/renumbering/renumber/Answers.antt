@@ -14,13 +14,13 @@ loop-i-preserved c =
     let all = c.loop-i.all in
     let i = c.loop-i.i in
     let x = record_at all i in
-    let v = stamped c.earlier-in-spare.result x in
+    let v = stamped c.earlier_in_spare.result x in
     let inv = c.loop-i.invariant in
     let both = inv.2.halves in
     let here : i < n = omega arith in
     let was = c.requires.kept.halves in
     let long : i < length s = omega (arith, length-drop n c.args.all.now) in
-    let rank = c.earlier-in-spare.ensures ∙ ap (λ l. earlier l x.time) inv.1 in (
+    let rank = c.earlier_in_spare.ensures ∙ ap (λ l. earlier l x.time) inv.1 in (
       take-set-lt n all i v here
           ∙ ap (λ t. set (take n all) i (stamped t x)) rank
           ∙ map_over_more (ranked s) s (take n all) i x long inv.0 (get_or_default all i blank_record x (omega arith) ∙ sym (get_or-take n all i x here)),

@@ -19,8 +19,8 @@ loop-k-init g c =
       started (g.P.Picks.picked c.args.picks.now) next os (take c.collect-count.result ts) p.sound.sequenced.older c.collect-count.ensures.turns,
     )
 
-pub to-end-requires : goal.to-end-requires
-to-end-requires g c =
+pub to_end-requires : goal.to_end-requires
+to_end-requires g c =
     let start = c.args.orders.now in
     let os = c.loop-k.orders in
     let ts = c.collect-count.new.turns in
@@ -54,12 +54,12 @@ loop-k-preserved g c =
     let same : record_at os p ≡ record_at start p = untouched (λ j. stamped (next + j)) ts start os k t.apart i.3 in
     let within : p < length os = omega (arith, t.within, c.loop-k.auto) in
     let live : (record_at os p).live ≡ true = subst (λ (x : OrderRecord). x.live ≡ true) (sym same) t.live in
-    let e = c.to-end.ensures in
+    let e = c.to_end.ensures in
     let now : ℕ = c.loop-k.ends.next in
     let late : next ≤ now = omega (arith, i.1) in (
       e.sound,
       omega (arith, e.times, i.1),
-      moved_both start os c.to-end.new.orders c.args.journal.now c.loop-k.journal c.to-end.new.journal (sym c.loop-k.auto.orders) i.2 e.moved,
+      moved_both start os c.to_end.new.orders c.args.journal.now c.loop-k.journal c.to_end.new.journal (sym c.loop-k.auto.orders) i.2 e.moved,
       subst (Restamped next (k + 1) ts start) (ap (λ (m : ℕ). set os p (stamped m (record_at os p))) (sym i.1) ∙ sym e.table) (rewritten_more (λ j. stamped (next + j)) ts start os k t.apart within i.3),
       subst (λ (o : List OrderRecord). Going test next start o (drop (k + 1) (take n ts))) (sym e.table)
           (went test next start os p (drop (k + 1) (take n ts)) (subst (Going test next start os) t.next i.4) within live i.0.sequenced.distinct same now late i.0.sequenced.older),

@@ -11,25 +11,25 @@ appended ok before after bytes call frame e b c = e ∙ ap (λ (x : List ℕ). c
 
 pub returns-in-Enter : goal.returns-in-Enter
 returns-in-Enter c =
-    appended (is_ok c.extend-from-slice.result) (vec_items c.args.out.now) _ _ c.args.call.now (frame.Enter _)
-    c.extend-from-slice.ensures.items c.enter-bytes.ensures c.in-Enter.is
+    appended (is_ok c.extend_from_slice.result) (vec_items c.args.out.now) _ _ c.args.call.now (frame.Enter _)
+    c.extend_from_slice.ensures.items c.enter_bytes.ensures c.in-Enter.is
 
 pub returns-in-Cancel : goal.returns-in-Cancel
 returns-in-Cancel c =
-    appended (is_ok c.extend-from-slice-in-Cancel.result) (vec_items c.args.out.now) _ _ c.args.call.now (frame.Cancel _)
-    c.extend-from-slice-in-Cancel.ensures.items c.cancel-bytes.ensures c.in-Cancel.is
+    appended (is_ok c.extend_from_slice-in-Cancel.result) (vec_items c.args.out.now) _ _ c.args.call.now (frame.Cancel _)
+    c.extend_from_slice-in-Cancel.ensures.items c.cancel_bytes.ensures c.in-Cancel.is
 
 pub returns-in-Quote : goal.returns-in-Quote
 returns-in-Quote c =
-    appended (is_ok c.extend-from-slice-in-Quote.result) (vec_items c.args.out.now) _ _ c.args.call.now (frame.Quote _)
-    c.extend-from-slice-in-Quote.ensures.items c.quote-bytes.ensures c.in-Quote.is
+    appended (is_ok c.extend_from_slice-in-Quote.result) (vec_items c.args.out.now) _ _ c.args.call.now (frame.Quote _)
+    c.extend_from_slice-in-Quote.ensures.items c.quote_bytes.ensures c.in-Quote.is
 
 pub returns-in-Resume : goal.returns-in-Resume
 returns-in-Resume c =
-    appended (is_ok c.extend-from-slice-in-Resume.result) (vec_items c.args.out.now) _ _ c.args.call.now (frame.Resume _)
-    c.extend-from-slice-in-Resume.ensures.items c.quote-bytes-in-Resume.ensures c.in-Resume.is
+    appended (is_ok c.extend_from_slice-in-Resume.result) (vec_items c.args.out.now) _ _ c.args.call.now (frame.Resume _)
+    c.extend_from_slice-in-Resume.ensures.items c.quote_bytes-in-Resume.ensures c.in-Resume.is
 
 pub returns-in-Enrol : goal.returns-in-Enrol
 returns-in-Enrol c =
-    appended (is_ok c.extend-from-slice-in-Enrol.result) (vec_items c.args.out.now) _ _ c.args.call.now (frame.Enrol _)
-    c.extend-from-slice-in-Enrol.ensures.items c.enrol-bytes.ensures c.in-Enrol.is
+    appended (is_ok c.extend_from_slice-in-Enrol.result) (vec_items c.args.out.now) _ _ c.args.call.now (frame.Enrol _)
+    c.extend_from_slice-in-Enrol.ensures.items c.enrol_bytes.ensures c.in-Enrol.is

@@ -3,6 +3,6 @@ use Rattle.channel.proofs.copies.DropCopy.put_all.Goals as goal
 
 pub returns : goal.returns
 returns g c = record {
-  sent = c.put-all.ensures.sent;
-  copied = copied _ _ _ _ _ _ _ c.put-all.result c.put-all.ensures.sent c.put-all.ensures.follows.2;
+  sent = c.put_all.ensures.sent;
+  copied = copied _ _ _ _ _ _ _ c.put_all.result c.put_all.ensures.sent c.put_all.ensures.follows.2;
 }
