@@ -31,8 +31,7 @@ def code_of(line):
 def parted(path, line):
     """The part of a line that names definitions, and the rest of it: a comment, or code of src/, which stays."""
     if path.endswith(".antt"):
-        at = line.find("--")
-        return (line, "") if at < 0 else (line[:at], line[at:])
+        return code_of(line), line[len(code_of(line)):]
     if path.endswith(".rt") and (re.match(r"\s*//", line) or not re.search(r"ghost |requires|ensures|invariant", line)):
         return "", line
     return line, ""
