@@ -2,20 +2,20 @@
 use crate::orders::{Broker, Entry, OrderNumber, TraderId};
 use crate::quotes::Quote;
 
-#[derive(Clone, Copy)]
+#[derive(Clone, Copy, Debug, PartialEq, Eq)]
 pub struct Cancellation {
     pub trader: TraderId,
     pub order: OrderNumber,
 }
 
-#[derive(Clone, Copy)]
+#[derive(Clone, Copy, Debug, PartialEq, Eq)]
 pub struct Enrolment {
     pub trader: TraderId,
     pub broker: Broker,
     pub latency_sensitive: bool,
 }
 
-#[derive(Clone, Copy)]
+#[derive(Clone, Copy, Debug, PartialEq, Eq)]
 pub enum Call {
     Enter(Entry),
     Cancel(Cancellation),

@@ -4,7 +4,7 @@ ghost use Rattle.types.specs.Reports.{price_or_zero, price_unless_zero};
 ghost use Rattle.types.specs.Money.{lot_shares, lot_of};
 
 /// A price counts quarter cents: 4000 is 10 dollars.
-#[derive(Clone, Copy)]
+#[derive(Clone, Copy, Debug, PartialEq, Eq, PartialOrd, Ord)]
 pub struct Price {
     pub quarters: u32,
 }
@@ -33,13 +33,13 @@ impl Price {
 }
 
 /// A number of shares.
-#[derive(Clone, Copy)]
+#[derive(Clone, Copy, Debug, PartialEq, Eq, PartialOrd, Ord)]
 pub struct Volume {
     pub shares: u32,
 }
 
 /// The board lot, of which every volume is a multiple.
-#[derive(Clone, Copy)]
+#[derive(Clone, Copy, Debug, PartialEq, Eq)]
 pub enum Lot {
     Hundred,
     FiveHundred,

@@ -5,24 +5,24 @@ ghost use Rattle.types.specs.Reports.{side_mark};
 use crate::money::{Price, Volume};
 
 /// The number that the book gave an accepted order: 1, 2, 3 and on.
-#[derive(Clone, Copy)]
+#[derive(Clone, Copy, Debug, PartialEq, Eq, PartialOrd, Ord)]
 pub struct OrderNumber {
     pub number: u32,
 }
 
 /// A broker's number.
-#[derive(Clone, Copy)]
+#[derive(Clone, Copy, Debug, PartialEq, Eq)]
 pub struct Broker {
     pub number: u16,
 }
 
 /// A trader's six letters.
-#[derive(Clone, Copy)]
+#[derive(Clone, Copy, Debug, PartialEq, Eq)]
 pub struct TraderId {
     pub letters: [u8; 6],
 }
 
-#[derive(Clone, Copy)]
+#[derive(Clone, Copy, Debug, PartialEq, Eq)]
 pub enum Side {
     Buy,
     Sell,
@@ -40,21 +40,21 @@ impl Side {
     }
 }
 
-#[derive(Clone, Copy)]
+#[derive(Clone, Copy, Debug, PartialEq, Eq)]
 pub enum OrderKind {
     Limit,
     Iceberg,
     Peg,
 }
 
-#[derive(Clone, Copy)]
+#[derive(Clone, Copy, Debug, PartialEq, Eq)]
 pub enum TimeInForce {
     Day,
     ImmediateOrCancel,
     FillOrKill,
 }
 
-#[derive(Clone, Copy)]
+#[derive(Clone, Copy, Debug, PartialEq, Eq)]
 pub struct Marks {
     pub post_only: bool,
     pub anonymous: bool,
@@ -62,7 +62,7 @@ pub struct Marks {
 }
 
 /// What self-trade prevention does where the active order meets one of its own.
-#[derive(Clone, Copy)]
+#[derive(Clone, Copy, Debug, PartialEq, Eq)]
 pub enum StpInstruction {
     Off,
     TradeAndSuppress,
@@ -72,13 +72,13 @@ pub enum StpInstruction {
 }
 
 /// Orders of one broker and one key, other than 0, are kept from trading with each other.
-#[derive(Clone, Copy)]
+#[derive(Clone, Copy, Debug, PartialEq, Eq)]
 pub struct StpKey {
     pub number: u32,
 }
 
 /// An order as it is sent.
-#[derive(Clone, Copy)]
+#[derive(Clone, Copy, Debug, PartialEq, Eq)]
 pub struct Entry {
     pub trader: TraderId,
     pub side: Side,
@@ -93,7 +93,7 @@ pub struct Entry {
 }
 
 /// An accepted order: its number, its trader's broker, and the entry as it was sent.
-#[derive(Clone, Copy)]
+#[derive(Clone, Copy, Debug, PartialEq, Eq)]
 pub struct Order {
     pub number: OrderNumber,
     pub broker: Broker,
@@ -101,7 +101,7 @@ pub struct Order {
 }
 
 /// An order on the time list, with the volume of its shown slice and of its hidden one.
-#[derive(Clone, Copy)]
+#[derive(Clone, Copy, Debug, PartialEq, Eq)]
 pub struct RestingOrder {
     pub order: Order,
     pub shown: Volume,

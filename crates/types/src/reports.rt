@@ -6,7 +6,7 @@ use crate::money::{Price, Volume};
 use crate::orders::{OrderNumber, Side};
 use crate::quotes::Quote;
 
-#[derive(Clone, Copy)]
+#[derive(Clone, Copy, Debug, PartialEq, Eq)]
 pub enum ReportKind {
     /// No report: a place of an event sheet that is not in use.
     Blank,
@@ -20,7 +20,7 @@ pub enum ReportKind {
 }
 
 /// Why what was left of an order was cancelled.
-#[derive(Clone, Copy)]
+#[derive(Clone, Copy, Debug, PartialEq, Eq)]
 pub enum CancelReason {
     Requested,
     ImmediateOrCancel,
@@ -45,7 +45,7 @@ impl CancelReason {
 }
 
 /// A report's kind and its five numbers, which a reader takes with any values.
-#[derive(Clone, Copy)]
+#[derive(Clone, Copy, Debug, PartialEq, Eq)]
 pub struct Report {
     pub kind: ReportKind,
     pub order: u32,
