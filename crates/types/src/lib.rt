@@ -8,7 +8,7 @@ mod quotes;
 mod reports;
 
 pub use calls::{Call, Cancellation, Enrolment};
-pub use money::{Lot, Price, Volume};
+pub use money::{Lot, Price, UnknownLot, Volume};
 pub use orders::{
     Broker, Entry, Marks, Order, OrderKind, OrderNumber, RestingOrder, Side, StpInstruction,
     StpKey, TimeInForce, TraderId,

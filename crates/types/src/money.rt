@@ -1,7 +1,7 @@
 //! Prices, volumes and board lots.
 ghost use Rattle.std.specs.Prelude.{◌≡◌, ◌<◌};
 ghost use Rattle.types.specs.Reports.{price_or_zero, price_unless_zero};
-ghost use Rattle.types.specs.Money.{lot_shares, lot_of};
+ghost use Rattle.types.specs.Money.{lot_shares, lot_from};
 
 /// A price counts quarter cents: 4000 is 10 dollars.
 #[derive(Clone, Copy, Debug, PartialEq, Eq, PartialOrd, Ord)]
@@ -14,10 +14,7 @@ impl Price {
     pub fn or_zero(side: Option<Price>) -> u32
         ensures { result ≡ price_or_zero side }
     {
-        match side {
-            Some(price) => price.quarters,
-            None => 0,
-        }
+        side.map_or(0, |price| price.quarters)
     }
 
     /// The side of a quote that the number tells: missing where it is 0.
@@ -41,9 +38,15 @@ pub struct Volume {
 /// The board lot, of which every volume is a multiple.
 #[derive(Clone, Copy, Debug, PartialEq, Eq)]
 pub enum Lot {
-    Hundred,
-    FiveHundred,
-    Thousand,
+    Hundred = 100,
+    FiveHundred = 500,
+    Thousand = 1000,
+}
+
+/// A number of shares that no board lot has.
+#[derive(Clone, Copy, Debug, PartialEq, Eq)]
+pub struct UnknownLot {
+    pub shares: u32,
 }
 
 impl Lot {
@@ -51,22 +54,21 @@ impl Lot {
         ensures value { result ≡ lot_shares self }
         ensures positive { 0 < result }
     {
-        match self {
-            Lot::Hundred => 100,
-            Lot::FiveHundred => 500,
-            Lot::Thousand => 1000,
-        }
+        self as u32
     }
+}
 
-    /// The lot of so many shares, if there is one.
-    pub fn from_shares(shares: u32) -> Option<Lot>
-        ensures { result ≡ lot_of shares }
-    {
+impl TryFrom<u32> for Lot {
+    type Error = UnknownLot;
+
+    ghost try_from_gives = { λ shares r. r ≡ lot_from shares };
+
+    fn try_from(shares: u32) -> Result<Lot, UnknownLot> {
         match shares {
-            100 => Some(Lot::Hundred),
-            500 => Some(Lot::FiveHundred),
-            1000 => Some(Lot::Thousand),
-            _ => None,
+            100 => Ok(Lot::Hundred),
+            500 => Ok(Lot::FiveHundred),
+            1000 => Ok(Lot::Thousand),
+            _ => Err(UnknownLot { shares }),
         }
     }
 }

@@ -24,34 +24,31 @@ pub struct TraderId {
 
 #[derive(Clone, Copy, Debug, PartialEq, Eq)]
 pub enum Side {
-    Buy,
-    Sell,
+    Buy = 1,
+    Sell = 2,
 }
 
-impl Side {
-    /// How a report marks the side.
-    pub fn mark(self) -> u8
-        ensures { result ≡ side_mark self }
-    {
-        match self {
-            Side::Buy => 1,
-            Side::Sell => 2,
-        }
+/// How a frame or a report marks the side.
+impl From<Side> for u8 {
+    ghost from_gives = { λ side mark. mark ≡ side_mark side };
+
+    fn from(side: Side) -> u8 {
+        side as u8
     }
 }
 
 #[derive(Clone, Copy, Debug, PartialEq, Eq)]
 pub enum OrderKind {
-    Limit,
-    Iceberg,
-    Peg,
+    Limit = 1,
+    Iceberg = 2,
+    Peg = 3,
 }
 
 #[derive(Clone, Copy, Debug, PartialEq, Eq)]
 pub enum TimeInForce {
-    Day,
-    ImmediateOrCancel,
-    FillOrKill,
+    Day = 1,
+    ImmediateOrCancel = 2,
+    FillOrKill = 3,
 }
 
 #[derive(Clone, Copy, Debug, PartialEq, Eq)]
@@ -64,11 +61,11 @@ pub struct Marks {
 /// What self-trade prevention does where the active order meets one of its own.
 #[derive(Clone, Copy, Debug, PartialEq, Eq)]
 pub enum StpInstruction {
-    Off,
-    TradeAndSuppress,
-    CancelAndDecrement,
-    CancelNewest,
-    CancelOldest,
+    Off = 0,
+    TradeAndSuppress = 1,
+    CancelAndDecrement = 2,
+    CancelNewest = 3,
+    CancelOldest = 4,
 }
 
 /// Orders of one broker and one key, other than 0, are kept from trading with each other.

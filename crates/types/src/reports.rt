@@ -9,38 +9,32 @@ use crate::quotes::Quote;
 #[derive(Clone, Copy, Debug, PartialEq, Eq)]
 pub enum ReportKind {
     /// No report: a place of an event sheet that is not in use.
-    Blank,
-    Accepted,
-    Trade,
-    Cancelled,
-    Decremented,
-    Quote,
-    Halted,
-    Closed,
+    Blank = 0,
+    Accepted = 1,
+    Trade = 2,
+    Cancelled = 3,
+    Decremented = 4,
+    Quote = 5,
+    Halted = 6,
+    Closed = 7,
 }
 
 /// Why what was left of an order was cancelled.
 #[derive(Clone, Copy, Debug, PartialEq, Eq)]
 pub enum CancelReason {
-    Requested,
-    ImmediateOrCancel,
-    FillOrKill,
-    SelfTrade,
-    Close,
+    Requested = 1,
+    ImmediateOrCancel = 2,
+    FillOrKill = 3,
+    SelfTrade = 4,
+    Close = 5,
 }
 
-impl CancelReason {
-    /// How a report marks the reason.
-    pub fn mark(self) -> u8
-        ensures { result ≡ cancel_mark self }
-    {
-        match self {
-            CancelReason::Requested => 1,
-            CancelReason::ImmediateOrCancel => 2,
-            CancelReason::FillOrKill => 3,
-            CancelReason::SelfTrade => 4,
-            CancelReason::Close => 5,
-        }
+/// How a report marks the reason.
+impl From<CancelReason> for u8 {
+    ghost from_gives = { λ reason mark. mark ≡ cancel_mark reason };
+
+    fn from(reason: CancelReason) -> u8 {
+        reason as u8
     }
 }
 
@@ -76,10 +70,10 @@ impl Report {
         Report {
             kind: ReportKind::Accepted,
             order: order.number,
-            other: 0,
             price: limit.quarters,
             volume: volume.shares,
-            mark: side.mark(),
+            mark: side.into(),
+            ..Report::blank()
         }
     }
 
@@ -93,7 +87,7 @@ impl Report {
     ) -> Report
         ensures { result ≡ trade buyer seller price volume active suppressed }
     {
-        let side = active.mark();
+        let side = u8::from(active);
         let mark = if suppressed { side + 4 } else { side };
         Report {
             kind: ReportKind::Trade,
@@ -111,10 +105,9 @@ impl Report {
         Report {
             kind: ReportKind::Cancelled,
             order: order.number,
-            other: 0,
-            price: 0,
             volume: volume.shares,
-            mark: reason.mark(),
+            mark: reason.into(),
+            ..Report::blank()
         }
     }
 
@@ -126,9 +119,8 @@ impl Report {
             kind: ReportKind::Decremented,
             order: order.number,
             other: other.number,
-            price: 0,
             volume: volume.shares,
-            mark: 0,
+            ..Report::blank()
         }
     }
 
@@ -137,27 +129,28 @@ impl Report {
     {
         Report {
             kind: ReportKind::Quote,
-            order: 0,
-            other: 0,
             price: Price::or_zero(quote.bid),
             volume: Price::or_zero(quote.offer),
             mark: resumed as u8,
+            ..Report::blank()
         }
     }
 
     pub fn halted() -> Report
         ensures { result ≡ halted }
     {
-        let mut report = Report::blank();
-        report.kind = ReportKind::Halted;
-        report
+        Report {
+            kind: ReportKind::Halted,
+            ..Report::blank()
+        }
     }
 
     pub fn closed() -> Report
         ensures { result ≡ closed }
     {
-        let mut report = Report::blank();
-        report.kind = ReportKind::Closed;
-        report
+        Report {
+            kind: ReportKind::Closed,
+            ..Report::blank()
+        }
     }
 }
