@@ -7,7 +7,7 @@ ghost use Rattle.faults.specs.declared.layers.ChannelFault.TheVariants.{Book as 
 use types::OrderNumber;
 
 /// A frame that cannot be taken for a call.
-#[derive(Clone, Copy)]
+#[derive(Clone, Copy, Debug, PartialEq, Eq)]
 pub enum FrameFault {
     Short,
     Version,
@@ -16,7 +16,7 @@ pub enum FrameFault {
 }
 
 /// The fields of the call frames that a check can find wrong.
-#[derive(Clone, Copy)]
+#[derive(Clone, Copy, Debug, PartialEq, Eq)]
 pub enum CallField {
     Trader,
     Side,
@@ -34,7 +34,7 @@ pub enum CallField {
 }
 
 /// A call whose fields no state of the book could take.
-#[derive(Clone, Copy)]
+#[derive(Clone, Copy, Debug, PartialEq, Eq)]
 pub enum FieldFault {
     Frame(FrameFault),
     Field(CallField),
@@ -46,7 +46,7 @@ pub enum FieldFault {
 }
 
 /// A call that the state of the book refuses.
-#[derive(Clone, Copy)]
+#[derive(Clone, Copy, Debug, PartialEq, Eq)]
 pub enum BookFault {
     Fields(FieldFault),
     Closed,
@@ -65,7 +65,7 @@ pub enum BookFault {
 }
 
 /// A call whose reports the channel has no space for.
-#[derive(Clone, Copy)]
+#[derive(Clone, Copy, Debug, PartialEq, Eq)]
 pub enum ChannelFault {
     Book(BookFault),
     Full,

@@ -4,93 +4,63 @@ ghost use Rattle.faults.specs.Refusals.{number_of, layer_number, offset, frame_r
 
 use crate::layers::{BookFault, CallField, ChannelFault, FieldFault, FrameFault};
 
-#[derive(Clone, Copy)]
+#[derive(Clone, Copy, Debug, PartialEq, Eq)]
 pub enum Reason {
-    Short,
-    Version,
-    Kind,
-    Length,
-    Field,
-    Price,
-    Volume,
-    Display,
-    Pairing,
-    SetUp,
-    Closed,
-    Halted,
-    NotHalted,
-    UnknownTrader,
-    TraderKnown,
-    RegisterFull,
-    LatencySensitive,
-    WouldTake,
-    UnknownOrder,
-    OtherBrokers,
-    DayLimit,
-    TableFull,
-    SheetFull,
-    ChannelFull,
+    Short = 1,
+    Version = 2,
+    Kind = 3,
+    Length = 4,
+    Field = 5,
+    Price = 6,
+    Volume = 7,
+    Display = 8,
+    Pairing = 9,
+    SetUp = 10,
+    Closed = 20,
+    Halted = 21,
+    NotHalted = 22,
+    UnknownTrader = 23,
+    TraderKnown = 24,
+    RegisterFull = 25,
+    LatencySensitive = 26,
+    WouldTake = 27,
+    UnknownOrder = 28,
+    OtherBrokers = 29,
+    DayLimit = 30,
+    TableFull = 31,
+    SheetFull = 32,
+    ChannelFull = 33,
 }
 
-#[derive(Clone, Copy)]
+#[derive(Clone, Copy, Debug, PartialEq, Eq)]
 pub enum Layer {
-    Frame,
-    Field,
-    Book,
-    Channel,
+    Frame = 1,
+    Field = 2,
+    Book = 3,
+    Channel = 4,
 }
 
 /// The place is an offset in the frame, an order's number, or 0.
-#[derive(Clone, Copy)]
+#[derive(Clone, Copy, Debug, PartialEq, Eq)]
 pub struct Refusal {
     pub reason: Reason,
     pub layer: Layer,
     pub place: u32,
 }
 
-impl Reason {
-    pub fn number(self) -> u8
-        ensures { result ≡ number_of self }
-    {
-        match self {
-            Reason::Short => 1,
-            Reason::Version => 2,
-            Reason::Kind => 3,
-            Reason::Length => 4,
-            Reason::Field => 5,
-            Reason::Price => 6,
-            Reason::Volume => 7,
-            Reason::Display => 8,
-            Reason::Pairing => 9,
-            Reason::SetUp => 10,
-            Reason::Closed => 20,
-            Reason::Halted => 21,
-            Reason::NotHalted => 22,
-            Reason::UnknownTrader => 23,
-            Reason::TraderKnown => 24,
-            Reason::RegisterFull => 25,
-            Reason::LatencySensitive => 26,
-            Reason::WouldTake => 27,
-            Reason::UnknownOrder => 28,
-            Reason::OtherBrokers => 29,
-            Reason::DayLimit => 30,
-            Reason::TableFull => 31,
-            Reason::SheetFull => 32,
-            Reason::ChannelFull => 33,
-        }
+impl From<Reason> for u8 {
+    ghost from_gives = { λ reason number. number ≡ number_of reason };
+
+    fn from(reason: Reason) -> u8 {
+        reason as u8
     }
 }
 
-impl Layer {
-    pub fn number(self) -> u8
-        ensures { result ≡ layer_number self }
-    {
-        match self {
-            Layer::Frame => 1,
-            Layer::Field => 2,
-            Layer::Book => 3,
-            Layer::Channel => 4,
-        }
+impl From<Layer> for u8 {
+    ghost from_gives = { λ layer number. number ≡ layer_number layer };
+
+    fn from(layer: Layer) -> u8 {
+        layer as u8
     }
 }
 
@@ -117,12 +87,12 @@ impl CallField {
     }
 }
 
-impl FrameFault {
-    pub fn refusal(self) -> Refusal
-        ensures { result ≡ frame_refusal self }
-    {
+impl From<FrameFault> for Refusal {
+    ghost from_gives = { λ fault refusal. refusal ≡ frame_refusal fault };
+
+    fn from(fault: FrameFault) -> Refusal {
         let layer = Layer::Frame;
-        match self {
+        match fault {
             FrameFault::Short => Refusal {
                 reason: Reason::Short,
                 layer,
@@ -158,12 +128,12 @@ fn at_field(reason: Reason, field: CallField) -> Refusal
     }
 }
 
-impl FieldFault {
-    pub fn refusal(self) -> Refusal
-        ensures { result ≡ field_refusal self }
-    {
-        match self {
-            FieldFault::Frame(fault) => fault.refusal(),
+impl From<FieldFault> for Refusal {
+    ghost from_gives = { λ fault refusal. refusal ≡ field_refusal fault };
+
+    fn from(fault: FieldFault) -> Refusal {
+        match fault {
+            FieldFault::Frame(fault) => fault.into(),
             FieldFault::Field(field) => at_field(Reason::Field, field),
             FieldFault::Price(field) => at_field(Reason::Price, field),
             FieldFault::Volume(field) => at_field(Reason::Volume, field),
@@ -189,12 +159,12 @@ fn by_book(reason: Reason, place: u32) -> Refusal
     }
 }
 
-impl BookFault {
-    pub fn refusal(self) -> Refusal
-        ensures { result ≡ book_refusal self }
-    {
-        match self {
-            BookFault::Fields(fault) => fault.refusal(),
+impl From<BookFault> for Refusal {
+    ghost from_gives = { λ fault refusal. refusal ≡ book_refusal fault };
+
+    fn from(fault: BookFault) -> Refusal {
+        match fault {
+            BookFault::Fields(fault) => fault.into(),
             BookFault::Closed => by_book(Reason::Closed, 0),
             BookFault::Halted => by_book(Reason::Halted, 0),
             BookFault::NotHalted => by_book(Reason::NotHalted, 0),
@@ -212,12 +182,12 @@ impl BookFault {
     }
 }
 
-impl ChannelFault {
-    pub fn refusal(self) -> Refusal
-        ensures { result ≡ channel_refusal self }
-    {
-        match self {
-            ChannelFault::Book(fault) => fault.refusal(),
+impl From<ChannelFault> for Refusal {
+    ghost from_gives = { λ fault refusal. refusal ≡ channel_refusal fault };
+
+    fn from(fault: ChannelFault) -> Refusal {
+        match fault {
+            ChannelFault::Book(fault) => fault.into(),
             ChannelFault::Full => Refusal {
                 reason: Reason::ChannelFull,
                 layer: Layer::Channel,
