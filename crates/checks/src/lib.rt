@@ -1,8 +1,8 @@
 //! The checks of a call's fields, for a call made bare and for one that came as a frame.
 #![tactic(auto)]
 
-ghost use Rattle.std.specs.Prelude.{◌≡◌};
-ghost use Rattle.checks.specs.Values.{is_letter, are_letters, in_range, on_tick, on_half_tick, is_limit, in_lots, is_volume, is_display, is_day, is_iceberg, is_term, is_off, is_paired};
+ghost use Rattle.std.specs.Prelude.{◌≡◌, ◌<◌, ◌%◌, ◌&&◌, ◌==◌, cond, nat_lt};
+ghost use Rattle.checks.specs.Values.{is_letter, are_letters, in_range, on_tick, is_limit, in_lots, is_volume, is_display, is_term, is_paired};
 ghost use Rattle.checks.specs.Checks.{test as tested, trader_check, broker_check, limit_check, volume_check, entry_check, cancel_check, side_check, quote_check, enrol_check, check as checked, Ticks};
 
 use faults::{CallField, FieldFault};
@@ -14,32 +14,27 @@ use types::{
 fn is_letter(c: u8) -> bool
     ensures { result ≡ is_letter c }
 {
-    (48 <= c && c <= 57) || (65 <= c && c <= 90)
+    matches!(c, b'0'..=b'9' | b'A'..=b'Z')
 }
 
 fn are_letters(letters: [u8; 6]) -> bool
     ensures { result ≡ are_letters letters }
 {
-    let [a, b, c, d, e, f] = letters;
-    is_letter(a) & (is_letter(b) & (is_letter(c) & (is_letter(d) & (is_letter(e) & is_letter(f)))))
+    letters.iter().all(|&c| is_letter(c))
 }
 
-fn in_range(p: u32) -> bool
-    ensures { result ≡ in_range p }
+/// In the range of prices, and a multiple of one step below 50 cents and of another from there on.
+fn is_on_step(p: u32, below: u32, above: u32) -> bool
+    requires { (0 < below) × (0 < above) }
+    ensures { result ≡ (in_range p && p % cond (nat_lt p 200) below above == 0) }
 {
-    1 <= p && p <= 4_000_000
+    matches!(p, 1..=4_000_000) && p % (if p < 200 { below } else { above }) == 0
 }
 
 fn is_on_tick(p: u32) -> bool
     ensures { result ≡ on_tick p }
 {
-    in_range(p) & (p % (if p < 200 { 2 } else { 4 }) == 0)
-}
-
-fn is_on_half_tick(p: u32) -> bool
-    ensures { result ≡ on_half_tick p }
-{
-    in_range(p) & (p % (if p < 200 { 1 } else { 2 }) == 0)
+    is_on_step(p, 2, 4)
 }
 
 fn is_limit(kind: OrderKind, p: u32) -> bool
@@ -47,7 +42,7 @@ fn is_limit(kind: OrderKind, p: u32) -> bool
 {
     match kind {
         OrderKind::Limit | OrderKind::Iceberg => is_on_tick(p),
-        OrderKind::Peg => is_on_half_tick(p),
+        OrderKind::Peg => is_on_step(p, 1, 2),
     }
 }
 
@@ -60,55 +55,28 @@ fn in_lots(lot: Lot, v: u32) -> bool
 fn is_volume(lot: Lot, v: u32) -> bool
     ensures { result ≡ is_volume lot v }
 {
-    (1 <= v) & (v <= 10_000_000) & in_lots(lot, v)
+    matches!(v, 1..=10_000_000) && in_lots(lot, v)
 }
 
 fn is_display(lot: Lot, kind: OrderKind, v: u32, d: u32) -> bool
     ensures { result ≡ is_display lot kind v d }
 {
     match kind {
-        OrderKind::Iceberg => (lot.shares() <= d) & (d <= v) & in_lots(lot, d),
+        OrderKind::Iceberg => lot.shares() <= d && d <= v && in_lots(lot, d),
         OrderKind::Limit | OrderKind::Peg => d == 0,
-    }
-}
-
-fn is_day(term: TimeInForce) -> bool
-    ensures { result ≡ is_day term }
-{
-    match term {
-        TimeInForce::Day => true,
-        TimeInForce::ImmediateOrCancel | TimeInForce::FillOrKill => false,
-    }
-}
-
-fn is_iceberg(kind: OrderKind) -> bool
-    ensures { result ≡ is_iceberg kind }
-{
-    match kind {
-        OrderKind::Iceberg => true,
-        OrderKind::Limit | OrderKind::Peg => false,
     }
 }
 
 fn is_term(post_only: bool, kind: OrderKind, term: TimeInForce) -> bool
     ensures { result ≡ is_term post_only kind term }
 {
-    !(post_only | is_iceberg(kind)) | is_day(term)
-}
-
-fn is_off(instruction: StpInstruction) -> bool
-    ensures { result ≡ is_off instruction }
-{
-    match instruction {
-        StpInstruction::Off => true,
-        _ => false,
-    }
+    !(post_only || kind == OrderKind::Iceberg) || term == TimeInForce::Day
 }
 
 fn is_paired(instruction: StpInstruction, key: StpKey) -> bool
     ensures { result ≡ is_paired instruction key.number }
 {
-    is_off(instruction) == (key.number == 0)
+    (instruction == StpInstruction::Off) == (key.number == 0)
 }
 
 fn test(passed: bool, fault: FieldFault) -> Result<(), FieldFault>
@@ -130,7 +98,7 @@ pub fn check_broker(broker: Broker) -> Result<(), FieldFault>
     ensures { result ≡ broker_check broker }
 {
     test(
-        1 <= broker.number && broker.number <= 999,
+        matches!(broker.number, 1..=999),
         FieldFault::Field(CallField::Broker),
     )
 }
