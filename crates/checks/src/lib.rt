@@ -187,8 +187,6 @@ pub fn check_call(lot: Lot, call: &Call) -> Result<(), FieldFault>
 }
 
 /// Which limits stand on a tick, around the price where the tick changes.
-pub fn ticks_hold() -> u8
+pub fn ticks_hold()
     ensures { Ticks }
-{
-    0
-}
+{}
