@@ -1,14 +1,9 @@
-use mathlib.Core.Path.{refl, ap, ◌∙◌}
-use mathlib.Core.List.{[]}
-use lib.ListN.{length}
-use Rattle.sheet.proofs.Sheets.{empty_sheet, sheet_length}
+use Rattle.std.proofs.Common.{refl, arith, length-take-le}
+use Rattle.std.proofs.Math.Nat.{sub-zero}
+use Rattle.sheet.proofs.Sheets.{emptied}
 use Rattle.sheet.proofs.EventSheet.begin.Goals as goal
 
-pub returns : goal.returns
-returns c =
-    let s = c.args.self.now in
-    record {
-      empty = empty_sheet c.clear.new.reports (length s.reports.now) c.clear.ensures;
-      places = ap length c.clear.ensures ∙ sheet_length (length s.reports.now) [];
-      lent = refl;
-    }
+pub returns-clause-empty : goal.returns-clause-empty
+returns-clause-empty c =
+    let all = c.fill.ensures.after (λ y e. e) in
+    record { counted = refl; written = emptied c.args.self.now c.min-places.result _ c.requires c.min-places.ensures (grind (arith, sub-zero, length-take-le, all)) }
