@@ -1,2 +1,3 @@
 pub mod Money
+pub mod Orders
 pub mod Reports

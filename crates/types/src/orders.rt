@@ -1,5 +1,6 @@
 //! What an order is entered with.
-ghost use Rattle.std.specs.Prelude.{◌≡◌};
+ghost use Rattle.std.specs.Prelude.{◌≡◌, ◌<◌, ◌^◌};
+ghost use Rattle.types.specs.Orders.{volume_in, volume_of};
 ghost use Rattle.types.specs.Reports.{side_mark};
 
 use crate::money::{Price, Volume};
@@ -103,4 +104,23 @@ pub struct RestingOrder {
     pub order: Order,
     pub shown: Volume,
     pub reserve: Volume,
+}
+
+impl RestingOrder {
+    /// The volume of the shown slice or of the hidden one.
+    pub fn slice(&self, hidden: bool) -> Volume
+        ensures { result ≡ record { shares = volume_in self.now hidden } }
+    {
+        if hidden { self.reserve } else { self.shown }
+    }
+
+    /// All that is left of the order.
+    pub fn volume(&self) -> Volume
+        requires { volume_of self.now < 2 ^ 32 }
+        ensures { result ≡ record { shares = volume_of self.now } }
+    {
+        Volume {
+            shares: self.shown.shares + self.reserve.shares,
+        }
+    }
 }
