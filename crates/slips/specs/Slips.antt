@@ -1,8 +1,9 @@
 -- What leaves an order, and what stays of it.
-use Rattle.std.specs.Prelude.{◌+◌, ◌-◌, Bool, cond}
+use Rattle.std.specs.Prelude.{◌-◌, Bool, cond}
 use Rattle.types.specs.declared.money.Volume.{Volume}
 use Rattle.types.specs.declared.orders.OrderNumber.{OrderNumber}
 use Rattle.types.specs.declared.orders.RestingOrder.{RestingOrder}
+use Rattle.types.specs.Orders.{volume_of}
 use Rattle.slips.specs.declared.Slip.{Slip}
 
 -- So much has left the order of that number.
@@ -16,10 +17,6 @@ less v by = record { shares = v.shares - by.shares }
 -- No volume.
 abbrev pub none : Volume
 none = record { shares = 0 }
-
--- The volume of the shown slice or of the hidden one.
-abbrev pub volume_in : RestingOrder → Bool → Volume
-volume_in o hidden = cond hidden o.reserve o.shown
 
 -- The order with volume taken from one slice.
 abbrev pub drawn_from : RestingOrder → Bool → Volume → RestingOrder
@@ -35,4 +32,4 @@ emptied o = record { order = o.order; shown = none; reserve = none }
 
 -- All that is left of the order.
 abbrev pub all_of : RestingOrder → Volume
-all_of o = record { shares = o.shown.shares + o.reserve.shares }
+all_of o = record { shares = volume_of o }
