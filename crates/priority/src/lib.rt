@@ -2,13 +2,14 @@
 #![tactic(auto)]
 
 ghost use Rattle.std.specs.Prelude.{◌≡◌};
-ghost use Rattle.priority.specs.Priority.{Rule, Lawful, or_else, prefer, better, best_price, shown_first, own_broker, attributed, omega_prefers, lynx_prefers, time_only, omega_rule, lynx_rule};
-ghost use Rattle.priority.specs.Rules.{time_only_lawful, omega_lawful, lynx_lawful};
+ghost use Rattle.priority.specs.Priority.{Rule, Likes, Lawful, ◌then◌, best_price, shown_first, preferring, own_broker, attributed, omega_prefers, lynx_prefers, time_only, omega_rule, lynx_rule};
+ghost use Rattle.priority.specs.Rules.{time_only_lawful, preferring_lawful};
 
+use std::cmp::Ordering;
 use types::{Broker, Marks, Price, Side};
 
 /// What a rule is told of the active order.
-#[derive(Clone, Copy)]
+#[derive(Clone, Copy, Debug, PartialEq, Eq)]
 pub struct Taker {
     pub side: Side,
     pub broker: Broker,
@@ -16,7 +17,7 @@ pub struct Taker {
 }
 
 /// What a rule is told of a slice: its executable price, whether it is hidden, and whose it is.
-#[derive(Clone, Copy)]
+#[derive(Clone, Copy, Debug, PartialEq, Eq)]
 pub struct SliceFacts {
     pub price: Price,
     pub hidden: bool,
@@ -25,85 +26,46 @@ pub struct SliceFacts {
     pub marks: Marks,
 }
 
-/// A rule's answer: the first slice is ahead, the second is, or they are level.
-#[derive(Clone, Copy)]
-pub enum Ahead {
-    First,
-    Second,
-    Level,
-}
-
 /// A priority rule. Its answer is its meaning.
 pub trait Priority {
     ghost rule: { Self → Rule };
 
-    fn compare(&self, taker: Taker, s: SliceFacts, t: SliceFacts) -> Ahead
+    /// `Less` where the first slice is ahead, `Greater` where the second is, `Equal` where they are level.
+    fn compare(&self, taker: Taker, s: SliceFacts, t: SliceFacts) -> Ordering
         ensures { result ≡ rule self.now taker s t };
 
     ghost lawful: { (r : Self) → Lawful (rule r) };
 }
 
-impl Ahead {
-    /// This answer, or where it is level the next.
-    fn or_else(self, next: Ahead) -> Ahead
-        ensures { result ≡ or_else self next }
-    {
-        match self {
-            Ahead::First => Ahead::First,
-            Ahead::Second => Ahead::Second,
-            Ahead::Level => next,
-        }
-    }
-}
-
-/// The one that is preferred is ahead.
-fn preferred(first: bool, second: bool) -> Ahead
-    ensures { result ≡ prefer first second }
-{
-    match (first, second) {
-        (true, false) => Ahead::First,
-        (false, true) => Ahead::Second,
-        _ => Ahead::Level,
-    }
-}
-
-/// The first price is better for an active order of the side.
-fn is_better(side: Side, first: Price, second: Price) -> bool
-    ensures { result ≡ better side first second }
-{
-    match side {
-        Side::Buy => first.quarters < second.quarters,
-        Side::Sell => first.quarters > second.quarters,
-    }
-}
-
-fn by_price(taker: Taker, s: SliceFacts, t: SliceFacts) -> Ahead
+/// The better price for the active order is ahead.
+fn by_price(taker: Taker, s: SliceFacts, t: SliceFacts) -> Ordering
     ensures { result ≡ best_price taker s t }
 {
-    preferred(
-        is_better(taker.side, s.price, t.price),
-        is_better(taker.side, t.price, s.price),
-    )
+    match taker.side {
+        Side::Buy => s.price.cmp(&t.price),
+        Side::Sell => t.price.cmp(&s.price),
+    }
 }
 
-fn by_shown(taker: Taker, s: SliceFacts, t: SliceFacts) -> Ahead
+/// Shown is ahead of hidden.
+fn by_shown(taker: Taker, s: SliceFacts, t: SliceFacts) -> Ordering
     ensures { result ≡ shown_first taker s t }
 {
-    preferred(!s.hidden, !t.hidden)
+    s.hidden.cmp(&t.hidden)
 }
 
 /// Price, then shown.
-fn by_price_and_shown(taker: Taker, s: SliceFacts, t: SliceFacts) -> Ahead
+fn by_price_and_shown(taker: Taker, s: SliceFacts, t: SliceFacts) -> Ordering
     ensures { result ≡ time_only taker s t }
 {
-    by_price(taker, s, t).or_else(by_shown(taker, s, t))
+    by_price(taker, s, t).then(by_shown(taker, s, t))
 }
 
 /// One broker, and neither is jitney.
 fn is_own_broker(taker: Taker, s: SliceFacts) -> bool
     ensures { result ≡ own_broker taker s }
 {
-    taker.broker.number == s.broker.number && !taker.marks.jitney && !s.marks.jitney
+    taker.broker == s.broker && !taker.marks.jitney && !s.marks.jitney
 }
 
 /// Neither is anonymous.
@@ -114,7 +76,7 @@ fn are_attributed(taker: Taker, s: SliceFacts) -> bool
 }
 
 /// Beyond price and shown, slices go by time.
-#[derive(Clone, Copy)]
+#[derive(Clone, Copy, Debug)]
 pub struct TimeOnly;
 
 impl Priority for TimeOnly {
@@ -122,54 +84,51 @@ impl Priority for TimeOnly {
 
     ghost lawful = { λ r. time_only_lawful };
 
-    fn compare(&self, taker: Taker, s: SliceFacts, t: SliceFacts) -> Ahead {
+    fn compare(&self, taker: Taker, s: SliceFacts, t: SliceFacts) -> Ordering {
         by_price_and_shown(taker, s, t)
     }
 }
 
+/// What an active order prefers among slices of one price that are shown alike.
+pub trait Preference {
+    ghost likes: { Likes };
+
+    fn prefers(taker: Taker, s: SliceFacts) -> bool
+        ensures { result ≡ likes taker s };
+}
+
+impl<P: Preference> Priority for P {
+    ghost rule = { λ _. time_only then preferring P.likes };
+
+    ghost lawful = { λ r. preferring_lawful P.likes };
+
+    fn compare(&self, taker: Taker, s: SliceFacts, t: SliceFacts) -> Ordering {
+        let preferred = P::prefers(taker, t).cmp(&P::prefers(taker, s));
+        by_price_and_shown(taker, s, t).then(preferred)
+    }
+}
+
 /// Attributed slices of the active order's broker come before others.
-#[derive(Clone, Copy)]
+#[derive(Clone, Copy, Debug)]
 pub struct Omega;
 
-impl Omega {
-    fn prefers(taker: Taker, s: SliceFacts) -> bool
-        ensures { result ≡ omega_prefers taker s }
-    {
+impl Preference for Omega {
+    ghost likes = { omega_prefers };
+
+    fn prefers(taker: Taker, s: SliceFacts) -> bool {
         is_own_broker(taker, s) && are_attributed(taker, s)
     }
 }
 
-impl Priority for Omega {
-    ghost rule = { λ _. omega_rule };
-
-    ghost lawful = { λ r. omega_lawful };
-
-    fn compare(&self, taker: Taker, s: SliceFacts, t: SliceFacts) -> Ahead {
-        let own = preferred(Omega::prefers(taker, s), Omega::prefers(taker, t));
-        by_price_and_shown(taker, s, t).or_else(own)
-    }
-}
-
 /// As Omega, but for pegs it makes no difference whether they are attributed.
-#[derive(Clone, Copy)]
+#[derive(Clone, Copy, Debug)]
 pub struct Lynx;
 
-impl Lynx {
-    fn prefers(taker: Taker, s: SliceFacts) -> bool
-        ensures { result ≡ lynx_prefers taker s }
-    {
+impl Preference for Lynx {
+    ghost likes = { lynx_prefers };
+
+    fn prefers(taker: Taker, s: SliceFacts) -> bool {
         is_own_broker(taker, s) && (s.peg || are_attributed(taker, s))
-    }
-}
-
-impl Priority for Lynx {
-    ghost rule = { λ _. lynx_rule };
-
-    ghost lawful = { λ r. lynx_lawful };
-
-    fn compare(&self, taker: Taker, s: SliceFacts, t: SliceFacts) -> Ahead {
-        let own = preferred(Lynx::prefers(taker, s), Lynx::prefers(taker, t));
-        by_price_and_shown(taker, s, t).or_else(own)
     }
 }
 

@@ -1,5 +1,5 @@
 -- What each call makes where it is accepted.
-use Rattle.std.specs.Prelude.{ℕ, Bool, true, false, not, List, [], ◌∷◌, ◌++◌, map, Some, None, filter, Option, ◌==◌}
+use Rattle.std.specs.Prelude.{ℕ, Bool, true, false, not, List, [], ◌∷◌, ◌++◌, map, Some, None, filter, find, Option, ◌==◌}
 use Rattle.std.specs.Str.{bytes_eq}
 use Rattle.types.specs.declared.calls.Call.{Call}
 use Rattle.types.specs.declared.calls.Call.TheVariants as call
@@ -14,7 +14,6 @@ use Rattle.types.specs.declared.reports.CancelReason.TheVariants as why
 use Rattle.types.specs.declared.reports.Report.{Report}
 use Rattle.types.specs.Reports.{cancelled, halted, closed}
 use Rattle.priority.specs.Priority.{Rule}
-use Rattle.runs.specs.Lists.{find}
 use Rattle.runs.specs.Slices.{volume_of}
 use Rattle.runs.specs.Meetings.{shares}
 use Rattle.rules.specs.Accounts.{rests}

@@ -4,13 +4,13 @@
 ghost use Rattle.std.specs.Prelude.{◌≡◌};
 ghost use Rattle.rules.specs.Cases.{Cases};
 ghost use Rattle.rules.specs.Laws.{DayLaw, CallsGoOn};
-ghost use Rattle.rules.specs.SetUps.{set_up_ok, lot_in};
+ghost use Rattle.rules.specs.SetUps.{places_in_range, set_up_ok, lot_in};
 
 use types::Lot;
 
 /// What a book is set up with: the board lot in shares, how many orders a day takes, and the places of the order table,
 /// the event sheet, the trader register and the order register.
-#[derive(Clone, Copy)]
+#[derive(Clone, Copy, Debug, PartialEq, Eq)]
 pub struct SetUp {
     pub lot: u32,
     pub day_limit: u32,
@@ -21,27 +21,31 @@ pub struct SetUp {
 }
 
 impl SetUp {
+    /// The sheet and the registers are within their ranges.
+    fn has_places_in_range(&self) -> bool
+        ensures { result ≡ places_in_range self.now }
+    {
+        (1..=65_536).contains(&self.sheet)
+            && (1..=65_536).contains(&self.traders)
+            && (self.table..=65_536).contains(&self.orders)
+    }
+
     /// Every size is within its range, and behind the table stands a spare as long.
     pub fn is_accepted(&self, spare: usize) -> bool
         ensures { result ≡ set_up_ok self.now spare }
     {
-        Lot::from_shares(self.lot).is_some()
-            & ((1 <= self.day_limit) & (self.day_limit <= 1_000_000))
-            & ((1 <= self.table) & (self.table <= 4096))
-            & ((1 <= self.sheet) & (self.sheet <= 65_536))
-            & ((1 <= self.traders) & (self.traders <= 65_536))
-            & ((self.table <= self.orders) & (self.orders <= 65_536))
-            & (spare == self.table)
+        Lot::try_from(self.lot).is_ok()
+            && (1..=1_000_000).contains(&self.day_limit)
+            && (1..=4096).contains(&self.table)
+            && self.has_places_in_range()
+            && spare == self.table
     }
 
     /// The board lot of an accepted set-up.
     pub fn board_lot(&self) -> Lot
         ensures { result ≡ lot_in self.now }
     {
-        match Lot::from_shares(self.lot) {
-            Some(lot) => lot,
-            None => Lot::Hundred,
-        }
+        Lot::try_from(self.lot).unwrap_or(Lot::Hundred)
     }
 }
 

@@ -1,13 +1,17 @@
 -- The run is the one chain of meetings with foremost slices. Assumes nothing.
 use Rattle.std.proofs.Common.{◌≡◌, ℕ, zero, suc, ◌<◌, ◌≤◌, Bool, true, false, cond, eqb, ltb, ◌⊎◌, List, [], ◌∷◌, ◌++◌, map, Some, None, Option, sym, refl, ap, ◌∙◌, subst, inl, inr, arith}
+use Rattle.std.specs.List.{find}
 use Rattle.std.proofs.lemmas.Bool.{both_ways, eqb-true}
+use Rattle.std.proofs.lemmas.Cmp.{alike_right}
 use Rattle.types.specs.declared.orders.Order.{Order}
 use Rattle.types.specs.declared.orders.RestingOrder.{RestingOrder}
 use Rattle.prices.specs.Prices.{View}
-use Rattle.priority.specs.declared.Ahead.{Ahead}
-use Rattle.priority.specs.declared.Ahead.TheVariants.{First, Second, Level}
-use Rattle.priority.specs.Priority.{Rule, Lawful, swapped, is_first, is_second}
-use Rattle.runs.specs.Lists.{In, At, find, no_one, foremost}
+use Rattle.std.specs.declared.cmp.Ordering.{Ordering}
+use Rattle.std.specs.declared.cmp.Ordering.TheVariants.{Less, Equal, Greater}
+use Rattle.std.specs.Ordering.{is_lt, ordering_reverse}
+use Rattle.priority.specs.Priority.{Rule, Lawful}
+use Rattle.priority.proofs.Orders.{lawful_order}
+use Rattle.runs.specs.Lists.{In, At, no_one, foremost}
 use Rattle.runs.specs.Slices.{Slice, takes, slice_of, later, slices, taker, facts, offered, ahead}
 use Rattle.runs.specs.Runs.{Progress, meet, next_slice, in_play, run}
 use Rattle.runs.specs.Chains.{OpenTo, Foremost, Over, Chain, RunsHold}
@@ -96,23 +100,9 @@ in_sequence q a (o ∷ os) s t b = elim (before_append s t (cond (takes q a o.or
     next u v e f (inr (k, h, g)) =
         inr (ap (λ (z : Slice). z.place) e ∙ ap suc k ∙ sym (ap (λ (z : Slice). z.place) f), ap (λ (z : Slice). z.hidden) e ∙ h, ap (λ (z : Slice). z.hidden) f ∙ g)
 
--- Three answers of a lawful rule: where s and t are level, who is ahead of t is ahead of s.
-level_ahead : (yt ty st ts ys sy : Ahead) → ty ≡ swapped yt → ts ≡ swapped st → sy ≡ swapped ys
-    → (is_second yt ≡ false → is_second ts ≡ false → is_second ys ≡ false)
-    → (is_second ts ≡ false → is_second sy ≡ false → is_second ty ≡ false)
-    → st ≡ Level → is_first ys ≡ false → is_first yt ≡ false
-level_ahead First ty st ts First sy e f g h k l n = n
-level_ahead First ty st ts Second sy e f g h k l n = absurd (both_ways true (h refl (ap is_second (f ∙ ap swapped l))) refl)
-level_ahead First ty st ts Level sy e f g h k l n = absurd (both_ways true (ap is_second (sym e) ∙ k (ap is_second (f ∙ ap swapped l)) (ap is_second g)) refl)
-level_ahead Second ty st ts ys sy e f g h k l n = refl
-level_ahead Level ty st ts ys sy e f g h k l n = refl
-
 module _ (rule : Rule) (law : Lawful rule) (q : View) (a : Order) where
-  answer : Slice → Slice → Ahead
+  answer : Slice → Slice → Ordering
   answer s t = rule (taker a) (facts q s) (facts q t)
-
-  first_not_level : (x : Ahead) → x ≡ First → x ≡ Level → ⊥
-  first_not_level x e f = let z : ◌≡◌ {A = ℕ} 0 1 = cc in omega arith
 
   -- the foremost slice of the definition is the foremost one of the relation
   pub is_foremost : (st : Progress) (s : Slice) → foremost (ahead rule q a) (slices q a st.others) ≡ Some s → Foremost rule q a st s
@@ -128,24 +118,22 @@ module _ (rule : Rule) (law : Lawful rule) (q : View) (a : Order) where
       here : OpenTo q a st.others s
       here = slice_ok q a st.others s top.0
 
-      unbeaten : (t : Slice) → answer s t ≡ Level → (y : Slice) → In y ss → ahead rule q a y t ≡ false
-      unbeaten t l y i =
-          level_ahead (answer y t) (answer t y) (answer s t) (answer t s) (answer y s) (answer s y)
-          (law.swap _ _ _) (law.swap _ _ _) (law.swap _ _ _) (law.not_behind _ _ _ _) (law.not_behind _ _ _ _) l (top.1 y i)
+      unbeaten : (t : Slice) → answer s t ≡ Equal → (y : Slice) → In y ss → ahead rule q a y t ≡ false
+      unbeaten t l y i = ap is_lt (sym (alike_right (lawful_order rule law (taker a)) (facts q s) (facts q t) (facts q y) l)) ∙ top.1 y i
 
-      same_place : (t : Slice) → OpenTo q a st.others t → answer s t ≡ Level → (t ≡ s) ⊎ Before s t ss → (t ≡ s) ⊎ (s.place < t.place)
+      same_place : (t : Slice) → OpenTo q a st.others t → answer s t ≡ Equal → (t ≡ s) ⊎ Before s t ss → (t ≡ s) ⊎ (s.place < t.place)
       same_place t o l (inl k) = inl k
       same_place t o l (inr b) = elim (in_sequence q a st.others s t b) [
         | inl k ↦ inr k
         | inr (k, h, g) ↦
             let r : s.resting ≡ t.resting = at_one t.place s.resting t.resting st.others (subst (λ n. At st.others n s.resting) k here.at) o.at in
-            absurd (first_not_level (answer s t) (law.by_shown (taker a) (facts q s) (facts q t) (ap (offered q) r) h g) l)
+            let e = law.by_shown (taker a) (facts q s) (facts q t) (ap (offered q) r) h g in cc
       ]
 
-      side : (t : Slice) → OpenTo q a st.others t → (x : Ahead) → answer s t ≡ x → (t ≡ s) ⊎ ((answer s t ≡ First) ⊎ ((answer s t ≡ Level) × (s.place < t.place)))
-      side t o First x = inr (inl x)
-      side t o Second x = absurd (both_ways true (sym (ap is_first (law.swap (taker a) (facts q s) (facts q t) ∙ ap swapped x)) ∙ top.1 t (open_in q a st.others t o)) refl)
-      side t o Level x =
+      side : (t : Slice) → OpenTo q a st.others t → (x : Ordering) → answer s t ≡ x → (t ≡ s) ⊎ ((answer s t ≡ Less) ⊎ ((answer s t ≡ Equal) × (s.place < t.place)))
+      side t o Less x = inr (inl x)
+      side t o Greater x = absurd (both_ways true (sym (ap is_lt (law.swap (taker a) (facts q s) (facts q t) ∙ ap ordering_reverse x)) ∙ top.1 t (open_in q a st.others t o)) refl)
+      side t o Equal x =
           let i = open_in q a st.others t o in
           elim (same_place t o x (find_first (λ x. no_one (λ y. ahead rule q a y x) ss) s t ss e i (in_no_one (λ y. ahead rule q a y t) ss (unbeaten t x)))) [
             | inl k ↦ inl k
@@ -158,27 +146,18 @@ module _ (rule : Rule) (law : Lawful rule) (q : View) (a : Order) where
     | inl e ↦ sym e
     | inr (inl e) ↦ elim (g.first s f.here) [
       | inl k ↦ k
-      | inr (inl k) ↦ absurd (second_first (turned First First e k))
-      | inr (inr (k, l)) ↦ absurd (second_level (turned First Level e k))
+      | inr (inl k) ↦ let turned = back Less e in cc
+      | inr (inr (k, l)) ↦ let turned = back Less e in cc
     ]
     | inr (inr (e, l)) ↦ elim (g.first s f.here) [
       | inl k ↦ k
-      | inr (inl k) ↦ absurd (level_first (turned Level First e k))
+      | inr (inl k) ↦ let turned = back Equal e in cc
       | inr (inr (k, m)) ↦ absurd (omega arith)
     ]
   ]
     where
-      turned : (x y : Ahead) → answer s t ≡ x → answer t s ≡ y → swapped x ≡ y
-      turned x y e k = ap swapped (sym e) ∙ sym (law.swap (taker a) (facts q s) (facts q t)) ∙ k
-
-      second_first : Second ≡ First → ⊥
-      second_first e = let z : ◌≡◌ {A = ℕ} 0 1 = cc in omega arith
-
-      second_level : Second ≡ Level → ⊥
-      second_level e = let z : ◌≡◌ {A = ℕ} 0 1 = cc in omega arith
-
-      level_first : Level ≡ First → ⊥
-      level_first e = let z : ◌≡◌ {A = ℕ} 0 1 = cc in omega arith
+      back : (x : Ordering) → answer s t ≡ x → answer t s ≡ ordering_reverse x
+      back x e = law.swap (taker a) (facts q s) (facts q t) ∙ ap ordering_reverse e
 
   is_next : (st : Progress) (s : Slice) → next_slice rule q a st ≡ Some s → Foremost rule q a st s
   unfolding next_slice

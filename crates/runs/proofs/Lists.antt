@@ -1,7 +1,8 @@
 -- Membership, places, sums and the foremost element. Assumes nothing.
 use Rattle.std.proofs.Common.{◌≡◌, ℕ, zero, suc, ◌+◌, ◌<◌, ◌≤◌, Bool, true, false, cond, not, ◌⊎◌, List, [], ◌∷◌, ◌++◌, map, Some, None, filter, sym, refl, ap, ◌∙◌, inl, inr, arith}
 use Rattle.std.proofs.lemmas.Bool.{and_parts, not-true, both_ways}
-use Rattle.runs.specs.Lists.{In, At, find, no_one, foremost, at_place, sum_of}
+use Rattle.std.specs.List.{find}
+use Rattle.runs.specs.Lists.{In, At, no_one, foremost, at_place, sum_of}
 
 pub in_append : {X : Type 0} (x : X) (xs ys : List X) → In x (xs ++ ys) → In x xs ⊎ In x ys
 in_append x [] ys h = inr h

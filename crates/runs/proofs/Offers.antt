@@ -1,13 +1,12 @@
 -- One pass over the orders finds the foremost slice. Assumes nothing.
 use Rattle.std.proofs.Common.{◌≡◌, ℕ, suc, Bool, true, false, cond, not, ◌&&◌, ltb, List, [], ◌∷◌, ◌++◌, map, length, Some, None, Option, sym, refl, ap, ◌∙◌, inl, append_assoc, append-nil}
-use Rattle.std.proofs.lemmas.Bool.{both_ways}
+use Rattle.std.specs.Ordering.{is_lt}
 use Rattle.std.proofs.lemmas.List.{map-append}
 use Rattle.types.specs.declared.orders.Order.{Order}
 use Rattle.types.specs.declared.orders.RestingOrder.{RestingOrder}
 use Rattle.prices.specs.Prices.{View}
-use Rattle.priority.specs.declared.Ahead.{Ahead}
-use Rattle.priority.specs.declared.Ahead.TheVariants.{First, Second, Level}
-use Rattle.priority.specs.Priority.{Rule, Lawful, swapped, is_first, is_second}
+use Rattle.priority.specs.Priority.{Rule, Lawful}
+use Rattle.priority.proofs.Orders.{lawful_order, before_upto, is_less, not_less}
 use Rattle.runs.specs.Lists.{foremost}
 use Rattle.runs.specs.Slices.{Slice, takes, slice_of, later, slices, taker, facts, ahead}
 use Rattle.runs.proofs.Lists.{foremost_none}
@@ -43,25 +42,11 @@ slices_snoc q a (x ∷ xs) o =
     ∙ sym (append_assoc (cond (takes q a x.order) (slice_of x false ++ slice_of x true) []) (map later (slices q a xs)) (slices_at q a (suc (length xs)) o))
 
 module _ (rule : Rule) (law : Lawful rule) (q : View) (a : Order) where
-  over_three : (xy zy xz yx yz zx : Ahead) → yx ≡ swapped xy → yz ≡ swapped zy → zx ≡ swapped xz
-      → (is_second zx ≡ false → is_second xy ≡ false → is_second zy ≡ false)
-      → (is_second yz ≡ false → is_second zx ≡ false → is_second yx ≡ false)
-      → is_first xy ≡ true → is_first zy ≡ false → is_first xz ≡ true
-  over_three First zy First yx yz zx e f g h k t u = refl
-  over_three First First Second yx yz zx e f g h k t u = absurd (both_ways true u refl)
-  over_three First Second Second yx yz zx e f g h k t u = absurd (both_ways true (h (ap is_second g) refl) refl)
-  over_three First Level Second yx yz zx e f g h k t u = absurd (both_ways true (ap is_second (sym e) ∙ k (ap is_second f) (ap is_second g)) refl)
-  over_three First First Level yx yz zx e f g h k t u = absurd (both_ways true u refl)
-  over_three First Second Level yx yz zx e f g h k t u = absurd (both_ways true (h (ap is_second g) refl) refl)
-  over_three First Level Level yx yz zx e f g h k t u = absurd (both_ways true (ap is_second (sym e) ∙ k (ap is_second f) (ap is_second g)) refl)
-  over_three Second zy xz yx yz zx e f g h k t u = absurd (both_ways false refl t)
-  over_three Level zy xz yx yz zx e f g h k t u = absurd (both_ways false refl t)
-
   pub ahead_over : (x y z : Slice) → ahead rule q a x y ≡ true → ahead rule q a z y ≡ false → ahead rule q a x z ≡ true
   unfolding ahead
   ahead_over x y z t u =
-      let r : Slice → Slice → Ahead = λ m n. rule (taker a) (facts q m) (facts q n) in
-      over_three (r x y) (r z y) (r x z) (r y x) (r y z) (r z x) (law.swap _ _ _) (law.swap _ _ _) (law.swap _ _ _) (law.not_behind _ _ _ _) (law.not_behind _ _ _ _) t u
+      let o = lawful_order rule law (taker a) in
+      ap is_lt (before_upto o (facts q x) (facts q y) (facts q z) (is_less _ t) (not_less o (facts q z) (facts q y) u))
 
   -- one more slice at the end
   pub keep_step : (best : Option Slice) (ys : List Slice) (s : Slice) → best ≡ foremost (ahead rule q a) ys → keep (ahead rule q a) best s ≡ foremost (ahead rule q a) (ys ++ (s ∷ []))

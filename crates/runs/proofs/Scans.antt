@@ -1,7 +1,8 @@
 -- One pass over the slices that keeps the best so far finds the foremost. Assumes nothing.
 use Rattle.std.proofs.Common.{◌≡◌, ℕ, Bool, true, false, cond, List, [], ◌∷◌, ◌++◌, Some, None, Option, sym, refl, ap, ◌∙◌, inl, inr, append_assoc, append-nil, arith}
 use Rattle.std.proofs.lemmas.Bool.{both_ways}
-use Rattle.runs.specs.Lists.{In, find, no_one, foremost}
+use Rattle.std.specs.List.{find}
+use Rattle.runs.specs.Lists.{In, no_one, foremost}
 use Rattle.runs.proofs.Lists.{in_append, in_left, in_right, no_one_in, in_no_one, foremost_some}
 
 -- the better of the best so far and one more

@@ -1,12 +1,12 @@
 -- The slices that an order may meet, and their order. Assumes nothing.
-use Rattle.std.proofs.Common.{◌≡◌, ℕ, zero, suc, ◌<◌, Bool, true, false, cond, ltb, List, [], ◌∷◌, ◌++◌, map, sym, refl, ap, ◌∙◌, subst, inl, inr, arith}
-use Rattle.std.proofs.lemmas.Bool.{both_ways, ltb-true, ltb-false, lt-ltb}
+use Rattle.std.proofs.Common.{◌≡◌, ℕ, zero, suc, ◌<◌, Bool, true, false, cond, ltb, List, [], ◌∷◌, ◌++◌, map, sym, refl, ap, subst, inl, inr, arith}
+use Rattle.std.specs.Ordering.{is_lt}
+use Rattle.std.proofs.lemmas.Bool.{ltb-true, ltb-false, lt-ltb}
 use Rattle.types.specs.declared.orders.Order.{Order}
 use Rattle.types.specs.declared.orders.RestingOrder.{RestingOrder}
 use Rattle.prices.specs.Prices.{View}
-use Rattle.priority.specs.declared.Ahead.{Ahead}
-use Rattle.priority.specs.declared.Ahead.TheVariants.{First, Second, Level}
-use Rattle.priority.specs.Priority.{Rule, Lawful, swapped, is_first, is_second, better}
+use Rattle.priority.specs.Priority.{Rule, Lawful, better}
+use Rattle.priority.proofs.Orders.{lawful_order, is_less}
 use Rattle.runs.specs.Lists.{In, At}
 use Rattle.runs.specs.Slices.{Slice, volume_of, volume_in, amount, takes, slice_of, later, slices, taker, facts, ahead}
 use Rattle.runs.specs.Chains.{OpenTo}
@@ -92,27 +92,12 @@ open_in q a os s ok = open_at q a os s.place s.resting s.hidden ok.at ok.taken o
 module _ (rule : Rule) (law : Lawful rule) (q : View) (a : Order) where
   pub ahead_self : (s : Slice) → ahead rule q a s s ≡ false
   unfolding ahead
-  ahead_self s = ap is_first (law.same (taker a) (facts q s))
-
-  three : (v w u v' w' u' : Ahead) → v' ≡ swapped v → w' ≡ swapped w → u' ≡ swapped u
-      → (is_second v ≡ false → is_second w ≡ false → is_second u ≡ false)
-      → (is_second u' ≡ false → is_second v ≡ false → is_second w' ≡ false)
-      → is_first v ≡ true → is_first w ≡ true → is_first u ≡ true
-  three First First First v' w' u' a b c f g x y = refl
-  three First First Second v' w' u' a b c f g x y = absurd (both_ways true (f refl refl) refl)
-  three First First Level v' w' u' a b c f g x y = absurd (both_ways true (ap is_second (sym b) ∙ g (ap is_second c) refl) refl)
-  three First Second u v' w' u' a b c f g x y = absurd (both_ways false refl y)
-  three First Level u v' w' u' a b c f g x y = absurd (both_ways false refl y)
-  three Second w u v' w' u' a b c f g x y = absurd (both_ways false refl x)
-  three Level w u v' w' u' a b c f g x y = absurd (both_ways false refl x)
+  ahead_self s = ap is_lt (law.same (taker a) (facts q s))
 
   pub ahead_trans : (s t u : Slice) → ahead rule q a s t ≡ true → ahead rule q a t u ≡ true → ahead rule q a s u ≡ true
   unfolding ahead
-  ahead_trans s t u x y =
-      let r : Slice → Slice → Ahead = λ m n. rule (taker a) (facts q m) (facts q n) in
-      three (r s t) (r t u) (r s u) (r t s) (r u t) (r u s) (law.swap _ _ _) (law.swap _ _ _) (law.swap _ _ _)
-      (law.not_behind _ _ _ _) (law.not_behind _ _ _ _) x y
+  ahead_trans s t u x y = ap is_lt ((lawful_order rule law (taker a)).trans (facts q s) (facts q t) (facts q u) (is_less _ x) (is_less _ y))
 
   pub ahead_price : (s t : Slice) → better a.entry.side (facts q s).price (facts q t).price ≡ true → ahead rule q a s t ≡ true
   unfolding ahead
-  ahead_price s t h = ap is_first (law.by_price (taker a) (facts q s) (facts q t) h)
+  ahead_price s t h = ap is_lt (law.by_price (taker a) (facts q s) (facts q t) h)

@@ -1,8 +1,8 @@
 -- What a run is, with no count of its steps: a chain of meetings with the foremost slices.
 use Rattle.std.specs.Prelude.{◌≡◌, ◌<◌, true, ◌⊎◌, List, [], ◌∷◌}
+use Rattle.std.specs.declared.cmp.Ordering.TheVariants.{Less, Equal}
 use Rattle.types.specs.declared.orders.Order.{Order}
 use Rattle.types.specs.declared.orders.RestingOrder.{RestingOrder}
-use Rattle.priority.specs.declared.Ahead.TheVariants.{First, Level}
 use Rattle.prices.specs.Prices.{View}
 use Rattle.priority.specs.Priority.{Rule, Lawful}
 use Rattle.runs.specs.Lists.{At}
@@ -19,7 +19,7 @@ pub record OpenTo (view : View) (a : Order) (os : List RestingOrder) (s : Slice)
 pub record Foremost (rule : Rule) (view : View) (a : Order) (st : Progress) (s : Slice) : Type 0 where
   pub here : OpenTo view a st.others s
   pub first : (t : Slice) → OpenTo view a st.others t
-      → (t ≡ s) ⊎ ((rule (taker a) (facts view s) (facts view t) ≡ First) ⊎ ((rule (taker a) (facts view s) (facts view t) ≡ Level) × (s.place < t.place)))
+      → (t ≡ s) ⊎ ((rule (taker a) (facts view s) (facts view t) ≡ Less) ⊎ ((rule (taker a) (facts view s) (facts view t) ≡ Equal) × (s.place < t.place)))
 
 -- The active order is used up, or no slice is left.
 abbrev pub Over : View → Order → Progress → Type 0

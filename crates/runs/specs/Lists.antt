@@ -1,5 +1,5 @@
 -- Words over lists.
-use Rattle.std.specs.Prelude.{◌≡◌, ℕ, zero, suc, ◌+◌, Bool, true, cond, not, ◌&&◌, ◌⊎◌, List, [], ◌∷◌, Some, None, Option}
+use Rattle.std.specs.Prelude.{◌≡◌, ℕ, zero, suc, ◌+◌, Bool, true, not, ◌&&◌, ◌⊎◌, List, [], ◌∷◌, Option, find}
 
 -- x is on the list
 abbrev pub In : {X : Type 0} → X → List X → Type 0
@@ -11,11 +11,6 @@ abbrev pub At : {X : Type 0} → List X → ℕ → X → Type 0
 At [] k x = ⊥
 At (y ∷ ys) zero x = y ≡ x
 At (y ∷ ys) (suc k) x = At ys k x
-
--- the first element that passes the test
-abbrev pub find : {X : Type 0} → (X → Bool) → List X → Option X
-find p [] = None
-find p (x ∷ xs) = cond (p x) (Some x) (find p xs)
 
 -- no element passes the test
 abbrev pub no_one : {X : Type 0} → (X → Bool) → List X → Bool

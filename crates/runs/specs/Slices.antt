@@ -1,5 +1,6 @@
 -- The slices that an active order may meet, and which of them is foremost.
 use Rattle.std.specs.Prelude.{ℕ, suc, ◌+◌, Bool, true, false, cond, List, [], ◌∷◌, ◌++◌, map, nat_lt}
+use Rattle.std.specs.Ordering.{is_lt}
 use Rattle.types.specs.declared.money.Price.{Price}
 use Rattle.types.specs.declared.orders.Order.{Order}
 use Rattle.types.specs.declared.orders.RestingOrder.{RestingOrder}
@@ -7,7 +8,7 @@ use Rattle.types.specs.Reports.{price_or_zero}
 use Rattle.prices.specs.Prices.{View, price, is_peg, may_take}
 use Rattle.priority.specs.declared.SliceFacts.{SliceFacts}
 use Rattle.priority.specs.declared.Taker.{Taker}
-use Rattle.priority.specs.Priority.{Rule, is_first}
+use Rattle.priority.specs.Priority.{Rule}
 
 -- One of the two volumes of a resting order, with the order's place on the time list.
 pub record Slice : Type 0 where
@@ -64,4 +65,4 @@ facts view s = record {
 
 -- The first slice is ahead of the second.
 unfoldable pub ahead : Rule → View → Order → Slice → Slice → Bool
-ahead rule view a s t = is_first (rule (taker a) (facts view s) (facts view t))
+ahead rule view a s t = is_lt (rule (taker a) (facts view s) (facts view t))

@@ -1,11 +1,12 @@
 -- One pass over the table finds the slice that leads, and that is the foremost one of the time list. Assumes nothing.
 use Rattle.std.proofs.Common.{◌≡◌, ℕ, zero, suc, ◌+◌, ◌<◌, Bool, true, false, cond, ◌&&◌, ltb, ◌⊎◌, List, [], ◌∷◌, length, get_or, Some, None, Option, sym, refl, ap, ◌∙◌, subst, inl, inr, arith}
+use Rattle.std.specs.declared.cmp.Ordering.{Ordering}
+use Rattle.std.specs.declared.cmp.Ordering.TheVariants.{Less, Equal, Greater}
+use Rattle.std.specs.Ordering.{is_gt, ordering_reverse}
 use Rattle.std.proofs.lemmas.Bool.{both_ways, ltb-true, ltb-false, lt-ltb}
 use Rattle.types.specs.declared.orders.Order.{Order}
 use Rattle.prices.specs.Prices.{View}
-use Rattle.priority.specs.declared.Ahead.{Ahead}
-use Rattle.priority.specs.declared.Ahead.TheVariants.{First, Second, Level}
-use Rattle.priority.specs.Priority.{Rule, Lawful, swapped, is_second}
+use Rattle.priority.specs.Priority.{Rule, Lawful}
 use Rattle.runs.specs.Lists.{At, foremost}
 use Rattle.runs.specs.Slices.{Slice, volume_in, takes, taker, facts, slices, ahead, offered}
 use Rattle.runs.specs.Runs.{Progress}
@@ -31,7 +32,7 @@ and_right : (b c : Bool) → b && c ≡ true → c ≡ true
 and_right true c e = e
 and_right false c e = no_two false refl e
 
-no_first_level : {A : Type 0} (x : Ahead) → x ≡ First → x ≡ Level → A
+no_first_level : {A : Type 0} (x : Ordering) → x ≡ Less → x ≡ Equal → A
 no_first_level x e f = let z : ◌≡◌ {A = ℕ} 0 1 = cc in absurd (omega arith)
 
 -- A record with a live order has a place on the table.
@@ -47,26 +48,26 @@ leads_live rule view a os asked b l =
     (and_left (within_reach view a (record_at os b.place)) (ltb 0 (volume_in (record_at os b.place).resting b.facts.hidden)) l.is_open)
 
 -- Three answers: what goes before one that goes before a third goes before that one.
-chained : (xy yz xz yx zy zx : Ahead) (x y z : ℕ) → yx ≡ swapped xy → zy ≡ swapped yz → zx ≡ swapped xz
-    → (is_second xy ≡ false → is_second yz ≡ false → is_second xz ≡ false)
-    → (is_second yz ≡ false → is_second zx ≡ false → is_second yx ≡ false)
-    → (is_second zx ≡ false → is_second xy ≡ false → is_second zy ≡ false)
+chained : (xy yz xz yx zy zx : Ordering) (x y z : ℕ) → yx ≡ ordering_reverse xy → zy ≡ ordering_reverse yz → zx ≡ ordering_reverse xz
+    → (is_gt xy ≡ false → is_gt yz ≡ false → is_gt xz ≡ false)
+    → (is_gt yz ≡ false → is_gt zx ≡ false → is_gt yx ≡ false)
+    → (is_gt zx ≡ false → is_gt xy ≡ false → is_gt zy ≡ false)
     → decided xy (ltb x y) ≡ true → decided yz (ltb y z) ≡ true → decided xz (ltb x z) ≡ true
-chained Second yz xz yx zy zx x y z e f g h k l s t = no_two false refl s
-chained First Second xz yx zy zx x y z e f g h k l s t = no_two false refl t
-chained Level Second xz yx zy zx x y z e f g h k l s t = no_two false refl t
-chained First First First yx zy zx x y z e f g h k l s t = refl
-chained First Level First yx zy zx x y z e f g h k l s t = refl
-chained Level First First yx zy zx x y z e f g h k l s t = refl
-chained Level Level First yx zy zx x y z e f g h k l s t = refl
-chained First First Second yx zy zx x y z e f g h k l s t = absurd (both_ways true (h refl refl) refl)
-chained First Level Second yx zy zx x y z e f g h k l s t = absurd (both_ways true (h refl refl) refl)
-chained Level First Second yx zy zx x y z e f g h k l s t = absurd (both_ways true (h refl refl) refl)
-chained Level Level Second yx zy zx x y z e f g h k l s t = absurd (both_ways true (h refl refl) refl)
-chained First First Level yx zy zx x y z e f g h k l s t = absurd (both_ways true (ap is_second (sym e) ∙ k refl (ap is_second g)) refl)
-chained First Level Level yx zy zx x y z e f g h k l s t = absurd (both_ways true (ap is_second (sym e) ∙ k refl (ap is_second g)) refl)
-chained Level First Level yx zy zx x y z e f g h k l s t = absurd (both_ways true (ap is_second (sym f) ∙ l (ap is_second g) refl) refl)
-chained Level Level Level yx zy zx x y z e f g h k l s t =
+chained Greater yz xz yx zy zx x y z e f g h k l s t = no_two false refl s
+chained Less Greater xz yx zy zx x y z e f g h k l s t = no_two false refl t
+chained Equal Greater xz yx zy zx x y z e f g h k l s t = no_two false refl t
+chained Less Less Less yx zy zx x y z e f g h k l s t = refl
+chained Less Equal Less yx zy zx x y z e f g h k l s t = refl
+chained Equal Less Less yx zy zx x y z e f g h k l s t = refl
+chained Equal Equal Less yx zy zx x y z e f g h k l s t = refl
+chained Less Less Greater yx zy zx x y z e f g h k l s t = absurd (both_ways true (h refl refl) refl)
+chained Less Equal Greater yx zy zx x y z e f g h k l s t = absurd (both_ways true (h refl refl) refl)
+chained Equal Less Greater yx zy zx x y z e f g h k l s t = absurd (both_ways true (h refl refl) refl)
+chained Equal Equal Greater yx zy zx x y z e f g h k l s t = absurd (both_ways true (h refl refl) refl)
+chained Less Less Equal yx zy zx x y z e f g h k l s t = absurd (both_ways true (ap is_gt (sym e) ∙ k refl (ap is_gt g)) refl)
+chained Less Equal Equal yx zy zx x y z e f g h k l s t = absurd (both_ways true (ap is_gt (sym e) ∙ k refl (ap is_gt g)) refl)
+chained Equal Less Equal yx zy zx x y z e f g h k l s t = absurd (both_ways true (ap is_gt (sym f) ∙ l (ap is_gt g) refl) refl)
+chained Equal Equal Equal yx zy zx x y z e f g h k l s t =
     let p = ltb-true x y s in
     let r = ltb-true y z t in
     lt-ltb x z (omega arith)
@@ -83,7 +84,7 @@ module _ (rule : Rule) (law : Lawful rule) (view : View) (a : Order) (os : List 
 
   gb_trans : (x y z : Candidate) → gb x y ≡ true → gb y z ≡ true → gb x z ≡ true
   gb_trans x y z s t =
-      let r : Candidate → Candidate → Ahead = λ m n. rule (taker a) m.facts n.facts in
+      let r : Candidate → Candidate → Ordering = λ m n. rule (taker a) m.facts n.facts in
       chained (r x y) (r y z) (r x z) (r y x) (r z y) (r z x) x.time y.time z.time
       (law.swap _ _ _) (law.swap _ _ _) (law.swap _ _ _) (law.not_behind _ _ _ _) (law.not_behind _ _ _ _) (law.not_behind _ _ _ _) s t
 
@@ -100,13 +101,13 @@ module _ (rule : Rule) (law : Lawful rule) (view : View) (a : Order) (os : List 
       tk : ℕ
       tk = (record_at os k).time
 
-      same : (h g : Bool) → i ≡ k → rule (taker a) (facts view (slice_on os i h)) (facts view (slice_on os k g)) ≡ Level → rule (taker a) (facts view (slice_on os k g)) (facts view (slice_on os i h)) ≡ Level → cand i h ≡ cand k g
+      same : (h g : Bool) → i ≡ k → rule (taker a) (facts view (slice_on os i h)) (facts view (slice_on os k g)) ≡ Equal → rule (taker a) (facts view (slice_on os k g)) (facts view (slice_on os i h)) ≡ Equal → cand i h ≡ cand k g
       same true true e l m = ap (λ (z : ℕ). cand z true) e
       same false false e l m = ap (λ (z : ℕ). cand z false) e
       same false true e l m = no_first_level _ (law.by_shown (taker a) (facts view (slice_on os i false)) (facts view (slice_on os k true)) (ap (λ (z : ℕ). offered view (record_at os z).resting) e) refl refl) l
       same true false e l m = no_first_level _ (law.by_shown (taker a) (facts view (slice_on os k false)) (facts view (slice_on os i true)) (ap (λ (z : ℕ). offered view (record_at os z).resting) (sym e)) refl refl) m
 
-      level : (b : Bool) → ltb tk ti ≡ b → ltb ti tk ≡ false → rule (taker a) (facts view (slice_on os i h)) (facts view (slice_on os k g)) ≡ Level → rule (taker a) (facts view (slice_on os k g)) (facts view (slice_on os i h)) ≡ Level → (cand i h ≡ cand k g) ⊎ (b ≡ true)
+      level : (b : Bool) → ltb tk ti ≡ b → ltb ti tk ≡ false → rule (taker a) (facts view (slice_on os i h)) (facts view (slice_on os k g)) ≡ Equal → rule (taker a) (facts view (slice_on os k g)) (facts view (slice_on os i h)) ≡ Equal → (cand i h ≡ cand k g) ⊎ (b ≡ true)
       level true e f l m = inr refl
       level false e f l m =
           let p = ltb-false tk ti e in
@@ -114,15 +115,15 @@ module _ (rule : Rule) (law : Lawful rule) (view : View) (a : Order) (os : List 
           let eq : ti ≡ tk = omega arith in
           inl (same h g (distinct i k (live_inside os i (is_live i h oi)) (live_inside os k (is_live k g ok)) (is_live i h oi) (is_live k g ok) eq) l m)
 
-      go : (x : Ahead) → rule (taker a) (facts view (slice_on os i h)) (facts view (slice_on os k g)) ≡ x → (y : Ahead) → rule (taker a) (facts view (slice_on os k g)) (facts view (slice_on os i h)) ≡ swapped (rule (taker a) (facts view (slice_on os i h)) (facts view (slice_on os k g)))
+      go : (x : Ordering) → rule (taker a) (facts view (slice_on os i h)) (facts view (slice_on os k g)) ≡ x → (y : Ordering) → rule (taker a) (facts view (slice_on os k g)) (facts view (slice_on os i h)) ≡ ordering_reverse (rule (taker a) (facts view (slice_on os i h)) (facts view (slice_on os k g)))
           → gb (cand i h) (cand k g) ≡ false → (cand i h ≡ cand k g) ⊎ (gb (cand k g) (cand i h) ≡ true)
-      go First e y s n = no_two true (sym (ap (λ (z : Ahead). decided z (ltb ti tk)) e) ∙ n) refl
-      go Second e y s n = inr (ap (λ (z : Ahead). decided z (ltb tk ti)) (s ∙ ap swapped e))
-      go Level e y s n =
-          let f : ltb ti tk ≡ false = sym (ap (λ (z : Ahead). decided z (ltb ti tk)) e) ∙ n in
-          elim (level (ltb tk ti) refl f e (s ∙ ap swapped e)) [
+      go Less e y s n = no_two true (sym (ap (λ (z : Ordering). decided z (ltb ti tk)) e) ∙ n) refl
+      go Greater e y s n = inr (ap (λ (z : Ordering). decided z (ltb tk ti)) (s ∙ ap ordering_reverse e))
+      go Equal e y s n =
+          let f : ltb ti tk ≡ false = sym (ap (λ (z : Ordering). decided z (ltb ti tk)) e) ∙ n in
+          elim (level (ltb tk ti) refl f e (s ∙ ap ordering_reverse e)) [
             | inl k ↦ inl k
-            | inr t ↦ inr (ap (λ (z : Ahead). decided z (ltb tk ti)) (s ∙ ap swapped e) ∙ t)
+            | inr t ↦ inr (ap (λ (z : Ordering). decided z (ltb tk ti)) (s ∙ ap ordering_reverse e) ∙ t)
           ]
 
   -- One more slice is asked about.
@@ -296,17 +297,17 @@ module _ (rule : Rule) (law : Lawful rule) (view : View) (a : Order) (os : List 
           go true e = ltb-true j n e
           go false e = no_two (record_at os j).live (none j (ltb-false j n e)) lv
 
-      answer : Slice → Ahead
+      answer : Slice → Ordering
       answer t = rule (taker a) (facts view (slice_on os i h)) (facts view t)
 
       first : (t : Slice) → OpenTo view a (resting_of os) t
-          → (t ≡ slice_on os i h) ⊎ ((answer t ≡ First) ⊎ ((answer t ≡ Level) × (rank os i < t.place)))
+          → (t ≡ slice_on os i h) ⊎ ((answer t ≡ Less) ⊎ ((answer t ≡ Equal) × (rank os i < t.place)))
       first t o =
           let (j, lv, same, at, m) = found_at t o in
           from j lv same at (l.first j t.hidden (below_n j lv) m)
         where
           from : (j : ℕ) → (record_at os j).live ≡ true → (record_at os j).resting ≡ t.resting → rank os j ≡ t.place
-              → (cand j t.hidden ≡ b) ⊎ (gb b (cand j t.hidden) ≡ true) → (t ≡ slice_on os i h) ⊎ ((answer t ≡ First) ⊎ ((answer t ≡ Level) × (rank os i < t.place)))
+              → (cand j t.hidden ≡ b) ⊎ (gb b (cand j t.hidden) ≡ true) → (t ≡ slice_on os i h) ⊎ ((answer t ≡ Less) ⊎ ((answer t ≡ Equal) × (rank os i < t.place)))
           from j lv same at (inl e) =
               let p : j ≡ i = ap (λ (z : Candidate). z.place) e in
               let g : t.hidden ≡ h = ap (λ (z : Candidate). z.facts.hidden) e in
@@ -319,12 +320,12 @@ module _ (rule : Rule) (law : Lawful rule) (view : View) (a : Order) (os : List 
               turned : answer t ≡ rule (taker a) (facts view (slice_on os i h)) (facts view (slice_on os j t.hidden))
               turned = λ k. rule (taker a) (facts view (slice_on os i h)) (facts view (record { place = t.place; resting = sym same k; hidden = t.hidden }))
 
-              go : (x : Ahead) → rule (taker a) (facts view (slice_on os i h)) (facts view (slice_on os j t.hidden)) ≡ x
-                  → (t ≡ slice_on os i h) ⊎ ((answer t ≡ First) ⊎ ((answer t ≡ Level) × (rank os i < t.place)))
-              go First e = inr (inl (turned ∙ e))
-              go Second e = no_two false refl (sym (ap (λ (z : Ahead). decided z (ltb (record_at os i).time (record_at os j).time)) e) ∙ was)
-              go Level e =
-                  let earlier : (record_at os i).time < (record_at os j).time = ltb-true _ _ (sym (ap (λ (z : Ahead). decided z (ltb (record_at os i).time (record_at os j).time)) e) ∙ was) in
+              go : (x : Ordering) → rule (taker a) (facts view (slice_on os i h)) (facts view (slice_on os j t.hidden)) ≡ x
+                  → (t ≡ slice_on os i h) ⊎ ((answer t ≡ Less) ⊎ ((answer t ≡ Equal) × (rank os i < t.place)))
+              go Less e = inr (inl (turned ∙ e))
+              go Greater e = no_two false refl (sym (ap (λ (z : Ordering). decided z (ltb (record_at os i).time (record_at os j).time)) e) ∙ was)
+              go Equal e =
+                  let earlier : (record_at os i).time < (record_at os j).time = ltb-true _ _ (sym (ap (λ (z : Ordering). decided z (ltb (record_at os i).time (record_at os j).time)) e) ∙ was) in
                   let lt = rank_first os i j inside live earlier in
                   inr (inr (turned ∙ e, subst (λ (z : ℕ). rank os i < z) at lt))
 

@@ -1,9 +1,9 @@
 -- The slices on an order table that an active order may meet, and which of them leads.
 use Rattle.std.specs.Prelude.{◌≡◌, ℕ, ◌<◌, ◌≤◌, Bool, true, false, cond, ◌&&◌, ◌⊎◌, List, Some, None, Option, nat_lt}
+use Rattle.std.specs.declared.cmp.Ordering.{Ordering}
+use Rattle.std.specs.declared.cmp.Ordering.TheVariants.{Less, Equal, Greater}
 use Rattle.types.specs.declared.orders.Order.{Order}
 use Rattle.prices.specs.Prices.{View}
-use Rattle.priority.specs.declared.Ahead.{Ahead}
-use Rattle.priority.specs.declared.Ahead.TheVariants.{First, Second, Level}
 use Rattle.priority.specs.declared.Taker.{Taker}
 use Rattle.priority.specs.Priority.{Rule}
 use Rattle.runs.specs.Slices.{Slice, volume_in, takes, taker, facts}
@@ -28,10 +28,10 @@ abbrev pub may_meet : View → Order → OrderRecord → Bool → Bool
 may_meet view a r hidden = within_reach view a r && nat_lt 0 (volume_in r.resting hidden)
 
 -- By the rule's answer, and where it is level by the earlier timestamp.
-abbrev pub decided : Ahead → Bool → Bool
-decided First earlier = true
-decided Second earlier = false
-decided Level earlier = earlier
+abbrev pub decided : Ordering → Bool → Bool
+decided Less earlier = true
+decided Greater earlier = false
+decided Equal earlier = earlier
 
 -- The first candidate goes before the second.
 abbrev pub goes_before : Rule → Taker → Candidate → Candidate → Bool

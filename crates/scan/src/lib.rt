@@ -9,7 +9,8 @@ ghost use Rattle.table.specs.Sequence.{resting_of, Distinct};
 ghost use Rattle.scan.specs.Leading.{candidate, goes_before, better_of, considered, visited, Leading, below, NoneFrom, slice_of};
 
 use prices::{View, executable_price, may_take};
-use priority::{Ahead, Priority, SliceFacts, Taker};
+use priority::{Priority, SliceFacts, Taker};
+use std::cmp::Ordering;
 use table::OrderRecord;
 use types::{Order, OrderKind, Price, RestingOrder};
 
@@ -73,9 +74,9 @@ impl Candidate {
         ensures { result ≡ goes_before (R.Priority.rule rule.now) taker self other }
     {
         match rule.compare(taker, self.facts, other.facts) {
-            Ahead::First => true,
-            Ahead::Second => false,
-            Ahead::Level => self.time < other.time,
+            Ordering::Less => true,
+            Ordering::Greater => false,
+            Ordering::Equal => self.time < other.time,
         }
     }
 }
