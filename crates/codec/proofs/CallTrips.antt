@@ -11,6 +11,12 @@ use Rattle.faults.specs.declared.layers.FieldFault.{FieldFault}
 use Rattle.faults.specs.declared.layers.FrameFault.{FrameFault}
 use Rattle.checks.specs.Checks.{Checked, trader_check, broker_check, check}
 use Rattle.codes.specs.Codes.{side_code, side_of, kind_code, kind_of, term_code, term_of, marks_code, marks_of, instruction_code, instruction_of, flag_code, flag_of}
+use Rattle.codes.specs.contracts.sides.SideCoded.TheImpl.Laws.{kept-law as side_kept, told-law as side_told}
+use Rattle.codes.specs.contracts.kinds.OrderKindCoded.TheImpl.Laws.{kept-law as kind_kept, told-law as kind_told}
+use Rattle.codes.specs.contracts.terms.TimeInForceCoded.TheImpl.Laws.{kept-law as term_kept, told-law as term_told}
+use Rattle.codes.specs.contracts.marks.MarksCoded.TheImpl.Laws.{kept-law as marks_kept, told-law as marks_told}
+use Rattle.codes.specs.contracts.instructions.StpInstructionCoded.TheImpl.Laws.{kept-law as instruction_kept, told-law as instruction_told}
+use Rattle.codes.specs.contracts.flags.BoolCoded.TheImpl.Laws.{kept-law as flag_kept, told-law as flag_told}
 use Rattle.wire.specs.declared.frames.CallFrame.{CallFrame}
 use Rattle.wire.specs.declared.frames.CallFrame.TheVariants as frame
 use Rattle.wire.specs.declared.frames.EnterFrame.{EnterFrame}
@@ -22,7 +28,6 @@ use Rattle.wire.specs.Trips.{Sound}
 use Rattle.wire.proofs.CallTrips.{call_reads, call_written}
 use Rattle.codec.specs.Calls.{and_then, meant, decoded_entry, decoded_enrolment, decoded, encoded, encoded_entry, checked, taken, received}
 use Rattle.codec.specs.Trips.{written, SixLetters, Fits}
-use Rattle.codec.proofs.Codes.{side_kept, side_told, kind_kept, kind_told, term_kept, term_told, marks_kept, marks_told, instruction_kept, instruction_told, flag_kept, flag_told}
 use Rattle.codec.proofs.Checked.{first, second, quoted}
 
 -- Written and read.

@@ -1,3 +1,2 @@
-mod Codes
 mod Checked
 mod CallTrips

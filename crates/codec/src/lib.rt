@@ -15,30 +15,19 @@ use wire::{CallFrame, EnrolFrame, EnterFrame, FrameReader};
 fn decode_code<T: Coded>(code: u8, field: CallField) -> Result<T, FieldFault>
     ensures { result ≡ meant (T.Coded.meaning code) field }
 {
-    match T::from_code(code) {
-        Some(value) => Ok(value),
-        None => Err(FieldFault::Field(field)),
-    }
+    T::from_code(code).ok_or(FieldFault::Field(field))
 }
 
 fn decode_entry(frame: &EnterFrame) -> Result<Entry, FieldFault>
     ensures { result ≡ decoded_entry frame.now }
 {
     check_trader(frame.trader)?;
-    let side = decode_code::<types::Side>(frame.side, CallField::Side)?;
-    let kind = decode_code::<types::OrderKind>(frame.kind, CallField::OrderKind)?;
-    let term = decode_code::<types::TimeInForce>(frame.term, CallField::Term)?;
-    let marks = decode_code::<types::Marks>(frame.marks, CallField::Marks)?;
-    let instruction = decode_code::<types::StpInstruction>(
-        frame.instruction,
-        CallField::Instruction,
-    )?;
     Ok(Entry {
         trader: frame.trader,
-        side,
-        kind,
-        term,
-        marks,
+        side: decode_code(frame.side, CallField::Side)?,
+        kind: decode_code(frame.kind, CallField::OrderKind)?,
+        term: decode_code(frame.term, CallField::Term)?,
+        marks: decode_code(frame.marks, CallField::Marks)?,
         limit: Price {
             quarters: frame.limit,
         },
@@ -48,7 +37,7 @@ fn decode_entry(frame: &EnterFrame) -> Result<Entry, FieldFault>
         display: Volume {
             shares: frame.display,
         },
-        instruction,
+        instruction: decode_code(frame.instruction, CallField::Instruction)?,
         key: StpKey { number: frame.key },
     })
 }
@@ -58,14 +47,10 @@ fn decode_enrolment(frame: &EnrolFrame) -> Result<Enrolment, FieldFault>
 {
     check_trader(frame.trader)?;
     check_broker(frame.broker)?;
-    let latency_sensitive = decode_code::<bool>(
-        frame.latency_sensitive,
-        CallField::LatencySensitive,
-    )?;
     Ok(Enrolment {
         trader: frame.trader,
         broker: frame.broker,
-        latency_sensitive,
+        latency_sensitive: decode_code(frame.latency_sensitive, CallField::LatencySensitive)?,
     })
 }
 
@@ -74,19 +59,13 @@ pub fn decode(frame: &CallFrame) -> Result<Call, FieldFault>
     ensures { result ≡ decoded frame.now }
 {
     match *frame {
-        CallFrame::Enter(fields) => {
-            let entry = decode_entry(&fields)?;
-            Ok(Call::Enter(entry))
-        }
+        CallFrame::Enter(fields) => decode_entry(&fields).map(Call::Enter),
         CallFrame::Cancel(cancellation) => Ok(Call::Cancel(cancellation)),
         CallFrame::Quote(quote) => Ok(Call::Quote(quote)),
         CallFrame::Halt => Ok(Call::Halt),
         CallFrame::Resume(quote) => Ok(Call::Resume(quote)),
         CallFrame::Close => Ok(Call::Close),
-        CallFrame::Enrol(fields) => {
-            let enrolment = decode_enrolment(&fields)?;
-            Ok(Call::Enrol(enrolment))
-        }
+        CallFrame::Enrol(fields) => decode_enrolment(&fields).map(Call::Enrol),
     }
 }
 
@@ -131,19 +110,15 @@ pub fn next_call(frames: &mut FrameReader, lot: Lot) -> Result<Option<Call>, Fie
     ensures answer { result ≡ (received lot frames.old.rest.now).answer }
     ensures rest { frames.new.rest.now ≡ (received lot frames.old.rest.now).rest }
 {
-    match frames.next_call()? {
-        None => Ok(None),
-        Some(frame) => {
-            let call = decode(&frame)?;
-            check_call(lot, &call)?;
-            Ok(Some(call))
-        }
-    }
+    let Some(frame) = frames.next_call()? else {
+        return Ok(None);
+    };
+    let call = decode(&frame)?;
+    check_call(lot, &call)?;
+    Ok(Some(call))
 }
 
 /// Calls and their frames, both ways.
-pub fn calls_round_trip() -> u8
+pub fn calls_round_trip()
     ensures { CallsRoundTrip }
-{
-    0
-}
+{}

@@ -1,5 +1,6 @@
 -- What each report says. A field that a report does not name is 0.
-use Rattle.std.specs.Prelude.{ℕ, ◌+◌, Bool, cond, Some, None, Option, ◌==◌}
+use Rattle.std.specs.Prelude.{ℕ, ◌+◌, Bool, cond, Some, None, Option, Result, ◌==◌}
+use Rattle.std.specs.Option.{ok_or}
 use Rattle.types.specs.declared.money.Price.{Price}
 use Rattle.types.specs.declared.money.Volume.{Volume}
 use Rattle.types.specs.declared.orders.OrderNumber.{OrderNumber}
@@ -9,7 +10,9 @@ use Rattle.types.specs.declared.quotes.Quote.{Quote}
 use Rattle.types.specs.declared.reports.CancelReason.{CancelReason}
 use Rattle.types.specs.declared.reports.CancelReason.TheVariants.{Requested, ImmediateOrCancel, FillOrKill, SelfTrade, Close}
 use Rattle.types.specs.declared.reports.Report.{Report}
+use Rattle.types.specs.declared.reports.ReportKind.{ReportKind}
 use Rattle.types.specs.declared.reports.ReportKind.TheVariants as kind
+use Rattle.types.specs.declared.reports.UnknownReportKind.{UnknownReportKind}
 
 -- how a report marks a side, and why an order was cancelled
 abbrev pub side_mark : Side → ℕ
@@ -22,6 +25,19 @@ cancel_mark ImmediateOrCancel = 2
 cancel_mark FillOrKill = 3
 cancel_mark SelfTrade = 4
 cancel_mark Close = 5
+
+-- the kind of a report by its number; 0, a blank's, tells none
+abbrev pub report_kind : ℕ → Option ReportKind
+report_kind n =
+    cond (n == 1) (Some kind.Accepted)
+    (cond (n == 2) (Some kind.Trade)
+    (cond (n == 3) (Some kind.Cancelled)
+    (cond (n == 4) (Some kind.Decremented)
+    (cond (n == 5) (Some kind.Quote) (cond (n == 6) (Some kind.Halted) (cond (n == 7) (Some kind.Closed) None))))))
+
+-- the same as a conversion, which says of which number there is none
+abbrev pub report_kind_from : ℕ → Result ReportKind UnknownReportKind
+report_kind_from n = ok_or (report_kind n) (record { code = n })
 
 -- a missing side of a quote counts as 0
 abbrev pub price_or_zero : Option Price → ℕ

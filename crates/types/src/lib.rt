@@ -14,4 +14,4 @@ pub use orders::{
     StpKey, TimeInForce, TraderId,
 };
 pub use quotes::{Quote, SessionState};
-pub use reports::{CancelReason, Report, ReportKind};
+pub use reports::{CancelReason, Report, ReportKind, UnknownReportKind};

@@ -1,6 +1,6 @@
 //! What a book reports.
 ghost use Rattle.std.specs.Prelude.{◌≡◌};
-ghost use Rattle.types.specs.Reports.{cancel_mark, blank, accepted, trade, cancelled, decremented, quoted, halted, closed};
+ghost use Rattle.types.specs.Reports.{report_kind_from, cancel_mark, blank, accepted, trade, cancelled, decremented, quoted, halted, closed};
 
 use crate::money::{Price, Volume};
 use crate::orders::{OrderNumber, Side};
@@ -17,6 +17,32 @@ pub enum ReportKind {
     Quote = 5,
     Halted = 6,
     Closed = 7,
+}
+
+/// A number of no report's kind.
+#[derive(Clone, Copy, Debug, PartialEq, Eq)]
+pub struct UnknownReportKind {
+    pub code: u8,
+}
+
+/// The kind of a report, by its number; a blank is no report, so 0 tells none.
+impl TryFrom<u8> for ReportKind {
+    type Error = UnknownReportKind;
+
+    ghost try_from_gives = { λ code r. r ≡ report_kind_from code };
+
+    fn try_from(code: u8) -> Result<ReportKind, UnknownReportKind> {
+        match code {
+            1 => Ok(ReportKind::Accepted),
+            2 => Ok(ReportKind::Trade),
+            3 => Ok(ReportKind::Cancelled),
+            4 => Ok(ReportKind::Decremented),
+            5 => Ok(ReportKind::Quote),
+            6 => Ok(ReportKind::Halted),
+            7 => Ok(ReportKind::Closed),
+            _ => Err(UnknownReportKind { code }),
+        }
+    }
 }
 
 /// Why what was left of an order was cancelled.

@@ -12,7 +12,7 @@ use Rattle.wire.specs.Layouts.{fields, Fit, Bytes, be32}
 use Rattle.wire.specs.Reading.{announced, framed, Form}
 use Rattle.wire.specs.Frames.{kind_code, kind_of, layout, kind_in, numbers, sides, quote_from, call_from, call_at, call_form, call_bytes, read_call}
 use Rattle.wire.specs.Trips.{Present, Sound}
-use Rattle.wire.proofs.Trips.{Stands, stands, framed_reads, was_read, stood}
+use Rattle.wire.proofs.Trips.{Stands, stands, framed_reads, was_read, kind_was, stood}
 
 -- Codes.
 
@@ -126,18 +126,10 @@ call_reads f more s fit =
     ∙ ap (λ (v : CallFrame). Some (record { length = announced (layout k); value = v })) (ap (call_from k) st.numbers ∙ again f s) in
     framed_reads (call_form (call_bytes f ++ more) (kind_of (get_or (call_bytes f ++ more) 3 0))) f (kind_code k) (layout k) (numbers f) more c a fit form
 
--- a form that is known is that of its kind
-form_was : (b : List ℕ) (o : Option CallKind) (n : ℕ) (f : CallFrame) → call_form b o ≡ Some (record { length = n; value = f })
-    → (k : CallKind) × ((o ≡ Some k) × ((n ≡ announced (layout k)) × (call_at b k ≡ f)))
-form_was b None n f e = absurd (let z : ◌≡◌ {A = ℕ} 0 1 = cc in omega arith)
-form_was b (Some k) n f e =
-    let g : ◌≡◌ {A = Form CallFrame} (record { length = announced (layout k); value = call_at b k }) (record { length = n; value = f }) = cc in
-    (k, (refl, (sym (ap (λ (x : Form CallFrame). x.length) g), ap (λ (x : Form CallFrame). x.value) g)))
-
 pub call_written : (b : List ℕ) (f : CallFrame) → Bytes b → (read_call b).answer ≡ Ok (Some f) → b ≡ call_bytes f ++ (read_call b).rest
 call_written b f a e =
     let (n, w) = was_read (call_form b (kind_of (get_or b 3 0))) f b e in
-    let (k, (o, (l, v))) = form_was b (kind_of (get_or b 3 0)) n f w.form_is in
+    let (k, (o, (l, v))) = kind_was (λ kind. announced (layout kind)) call_at b (kind_of (get_or b 3 0)) n f w.form_is in
     let c = code_was (get_or b 3 0) k o in
     let p : kind_in f ≡ k = sym (ap kind_in v) ∙ kind_at b k in
     let m : fields (layout k) b 4 ≡ numbers f = numbers_at b k ∙ ap numbers v in

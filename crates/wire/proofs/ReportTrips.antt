@@ -7,7 +7,7 @@ use Rattle.types.specs.declared.reports.ReportKind.TheVariants as kind
 use Rattle.wire.specs.Layouts.{fields, Fit, Bytes}
 use Rattle.wire.specs.Reading.{announced, Form}
 use Rattle.wire.specs.Reports.{report_code, report_kind, report_layout, report_numbers, report_bytes, report_from, report_at, report_form, read_report}
-use Rattle.wire.proofs.Trips.{Stands, stands, framed_reads, was_read, stood}
+use Rattle.wire.proofs.Trips.{Stands, stands, framed_reads, was_read, kind_was, stood}
 
 coded : (k : ReportKind) → (k ≡ kind.Blank → ⊥) → report_kind (report_code k) ≡ Some k
 coded kind.Blank h = absurd (h refl)
@@ -51,17 +51,10 @@ report_reads r more h fit =
     ∙ ap (λ (ns : List ℕ). Some (record { length = announced report_layout; value = report_from r.kind ns })) st.numbers in
     framed_reads (report_form b (report_kind (get_or b 3 0))) r (report_code r.kind) report_layout (report_numbers r) more c a fit form
 
-form_was : (b : List ℕ) (o : Option ReportKind) (n : ℕ) (r : Report) → report_form b o ≡ Some (record { length = n; value = r })
-    → (k : ReportKind) × ((o ≡ Some k) × ((n ≡ announced report_layout) × (report_at b k ≡ r)))
-form_was b None n r e = absurd (let z : ◌≡◌ {A = ℕ} 0 1 = cc in omega arith)
-form_was b (Some k) n r e =
-    let g : ◌≡◌ {A = Form Report} (record { length = announced report_layout; value = report_at b k }) (record { length = n; value = r }) = cc in
-    (k, (refl, (sym (ap (λ (x : Form Report). x.length) g), ap (λ (x : Form Report). x.value) g)))
-
 pub report_written : (b : List ℕ) (r : Report) → Bytes b → (read_report b).answer ≡ Ok (Some r) → b ≡ report_bytes r ++ (read_report b).rest
 report_written b r a e =
     let (n, w) = was_read (report_form b (report_kind (get_or b 3 0))) r b e in
-    let (k, (o, (l, v))) = form_was b (report_kind (get_or b 3 0)) n r w.form_is in
+    let (k, (o, (l, v))) = kind_was (λ kind. announced report_layout) report_at b (report_kind (get_or b 3 0)) n r w.form_is in
     let c : get_or b 3 0 ≡ report_code r.kind = code_was (get_or b 3 0) k o ∙ ap (λ (x : Report). report_code x.kind) v in
     let m : fields report_layout b 4 ≡ report_numbers r = ap report_numbers v in
     let s : Stands (report_code r.kind) report_layout (report_numbers r) b = record { length_is = w.length_is ∙ l; version = w.version; kind = c; numbers = m } in

@@ -1,16 +1,14 @@
 -- Frames written and read, and read and written, for any form of frame.
-use Rattle.std.proofs.Common.{◌≡◌, ℕ, ◌+◌, ◌<◌, ◌≤◌, Bool, true, false, cond, eqb, List, [], ◌∷◌, ◌++◌, length, get_or, take, drop, Some, None, Ok, Err, Option, Result, sym, refl, ap, ◌∙◌, arith, length-append, take-append-drop}
+use Rattle.std.proofs.Common.{◌≡◌, ℕ, ◌+◌, ◌<◌, ◌≤◌, Bool, true, false, cond, eqb, List, [], ◌∷◌, ◌++◌, length, get_or, take, drop, Some, None, Ok, Err, Option, Result, sym, refl, ap, ◌∙◌, arith, rules, length-append, take-append-drop}
 use Rattle.std.proofs.lemmas.List.{drop_at}
 use Rattle.std.proofs.lemmas.Bool.Decides.{nat_tests}
 use Rattle.faults.specs.declared.layers.FrameFault.{FrameFault}
 use Rattle.faults.specs.declared.layers.FrameFault.TheVariants as fault
-use Rattle.wire.specs.declared.reader.Head.{Head}
-use Rattle.wire.specs.declared.reader.Head.TheVariants.{Ended, Cut, Whole}
 use Rattle.wire.specs.Layouts.{Width, one, two, four, be16, size, bytes, total, fields, laid, Fit, Bytes}
-use Rattle.wire.specs.Reading.{header, announced, framed, head_of, Form, version_check, formed, after, found, read_at, read}
+use Rattle.wire.specs.Reading.{header, announced, framed, head_of, Form, form_of, version_check, formed, after, found, read_at, read}
 use Rattle.wire.proofs.Laws.{laid_again, read_again}
 
-head_is : (b : List ℕ) (n : ℕ) → be16 b 0 ≡ n → 4 ≤ length b → n + 2 ≤ length b → head_of b ≡ Whole n
+head_is : (b : List ℕ) (n : ℕ) → be16 b 0 ≡ n → 4 ≤ length b → n + 2 ≤ length b → head_of b ≡ Ok (Some n)
 head_is b n e h k = grind (arith, nat_tests)
 
 version_is : (b : List ℕ) (n : ℕ) → 2 ≤ n → get_or b 2 0 ≡ 1 → version_check b n ≡ Ok tt
@@ -82,15 +80,15 @@ same_form {A} true f n v e h =
     let l : n ≡ f.length = grind (arith, nat_tests) in
     let w : f.value ≡ v = cc in
     ap (λ (x : ℕ). Some (record { length = x; value = f.value })) (sym l) ∙ ap (λ (y : A). Some (record { length = n; value = y })) w
-same_form false f n v e h = absurd (let z : ◌≡◌ {A = ℕ} 0 1 = cc in omega arith)
+same_form false f n v e h = search rules
 
 form_was : {A : Type 0} (c : Result (Unit {0}) FrameFault) (form : Option (Form A)) (n : ℕ) (v : A) → found (after c (formed n form)) ≡ Ok (Some v)
     → (c ≡ Ok tt) × (form ≡ Some (record { length = n; value = v }))
 form_was (Ok tt) (Some f) n v e = (refl, same_form (eqb n f.length) f n v refl e)
-form_was (Ok tt) None n v e = absurd (let z : ◌≡◌ {A = ℕ} 0 1 = cc in omega arith)
-form_was (Err x) form n v e = absurd (let z : ◌≡◌ {A = ℕ} 0 1 = cc in omega arith)
+form_was (Ok tt) None n v e = search rules
+form_was (Err x) form n v e = search rules
 
-head_was : (b : List ℕ) (n : ℕ) → head_of b ≡ Whole n → (be16 b 0 ≡ n) × (n + 2 ≤ length b)
+head_was : (b : List ℕ) (n : ℕ) → head_of b ≡ Ok (Some n) → (be16 b 0 ≡ n) × (n + 2 ≤ length b)
 head_was b n e = (grind (arith, nat_tests), grind (arith, nat_tests))
 
 version_was : (b : List ℕ) (n : ℕ) → version_check b n ≡ Ok tt → get_or b 2 0 ≡ 1
@@ -99,13 +97,21 @@ version_was b n e = grind (arith, nat_tests)
 pub was_read : {A : Type 0} (form : Option (Form A)) (v : A) (b : List ℕ) → (read form b).answer ≡ Ok (Some v) → (n : ℕ) × Was form v n b
 was_read form v b e = go (head_of b) refl e
   where
-    go : (h : Head) → head_of b ≡ h → (read_at form b h).answer ≡ Ok (Some v) → (n : ℕ) × Was form v n b
-    go Ended e r = absurd (let z : ◌≡◌ {A = ℕ} 0 1 = cc in omega arith)
-    go Cut e r = absurd (let z : ◌≡◌ {A = ℕ} 0 1 = cc in omega arith)
-    go (Whole n) e r =
+    go : (h : Result (Option ℕ) FrameFault) → head_of b ≡ h → (read_at form b h).answer ≡ Ok (Some v) → (n : ℕ) × Was form v n b
+    go (Ok None) e r = search rules
+    go (Err f) e r = search rules
+    go (Ok (Some n)) e r =
         let t = form_was (version_check b n) form n v r in
         let h = head_was b n e in
-        (n, record { length_is = h.0; long = h.1; version = version_was b n t.0; form_is = t.1; rest = ap (λ (x : Head). (read_at form b x).rest) e })
+        (n, record { length_is = h.0; long = h.1; version = version_was b n t.0; form_is = t.1; rest = ap (λ (x : Result (Option ℕ) FrameFault). (read_at form b x).rest) e })
+
+-- a form that is known is that of its kind
+pub kind_was : {K A : Type 0} (length : K → ℕ) (says : List ℕ → K → A) (b : List ℕ) (o : Option K) (n : ℕ) (v : A)
+    → form_of length says b o ≡ Some (record { length = n; value = v }) → (k : K) × ((o ≡ Some k) × ((n ≡ length k) × (says b k ≡ v)))
+kind_was length says b None n v e = search rules
+kind_was {A = A} length says b (Some k) n v e =
+    let g : ◌≡◌ {A = Form A} (record { length = length k; value = says b k }) (record { length = n; value = v }) = cc in
+    (k, (refl, (sym (ap (λ (x : Form A). x.length) g), ap (λ (x : Form A). x.value) g)))
 
 -- bytes that stand as a frame's are the frame and what is behind it
 pub stood : (code : ℕ) (ws : List Width) (vs b : List ℕ) → Bytes b → Stands code ws vs b → announced ws + 2 ≤ length b → b ≡ framed code ws vs ++ drop (announced ws + 2) b

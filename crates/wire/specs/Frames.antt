@@ -9,7 +9,7 @@ use Rattle.wire.specs.declared.frames.EnterFrame.{EnterFrame}
 use Rattle.wire.specs.declared.frames.CallFrame.{CallFrame}
 use Rattle.wire.specs.declared.frames.CallFrame.TheVariants as frame
 use Rattle.wire.specs.Layouts.{Width, one, two, four, fields}
-use Rattle.wire.specs.Reading.{announced, framed, Form, Read, read}
+use Rattle.wire.specs.Reading.{announced, framed, Form, form_of, Read, read}
 
 -- the number of each kind
 abbrev pub kind_code : CallKind → ℕ
@@ -115,8 +115,7 @@ abbrev pub call_at : List ℕ → CallKind → CallFrame
 call_at b k = call_from k (fields (layout k) b 4)
 
 abbrev pub call_form : List ℕ → Option CallKind → Option (Form CallFrame)
-call_form b None = None
-call_form b (Some k) = Some (record { length = announced (layout k); value = call_at b k })
+call_form b k = form_of (λ kind. announced (layout kind)) call_at b k
 
 -- The next call of the bytes that are left.
 abbrev pub read_call : List ℕ → Read CallFrame

@@ -2,8 +2,6 @@
 use Rattle.std.specs.Prelude.{ℕ, ◌+◌, cond, List, ◌∷◌, length, drop, Some, None, Ok, Err, Option, Result, ◌==◌, nat_lt, slice_index}
 use Rattle.faults.specs.declared.layers.FrameFault.{FrameFault}
 use Rattle.faults.specs.declared.layers.FrameFault.TheVariants as fault
-use Rattle.wire.specs.declared.reader.Head.{Head}
-use Rattle.wire.specs.declared.reader.Head.TheVariants.{Ended, Cut, Whole}
 use Rattle.wire.specs.Layouts.{Width, one, two, be16, total, laid}
 
 abbrev pub header : List Width → List Width
@@ -18,15 +16,20 @@ abbrev pub framed : ℕ → List Width → List ℕ → List ℕ
 framed code ws vs = laid (header ws) (announced ws ∷ 1 ∷ code ∷ vs)
 
 -- How the bytes that are left begin: with none, with fewer than they announce, or with a whole frame of that length.
-abbrev pub head_of : List ℕ → Head
+abbrev pub head_of : List ℕ → Result (Option ℕ) FrameFault
 head_of b =
-    cond (length b == 0) Ended
-    (cond (nat_lt (length b) 4) Cut (cond (nat_lt (length b) (be16 b 0 + 2)) Cut (Whole (be16 b 0))))
+    cond (length b == 0) (Ok None)
+    (cond (nat_lt (length b) 4) (Err fault.Short) (cond (nat_lt (length b) (be16 b 0 + 2)) (Err fault.Short) (Ok (Some (be16 b 0)))))
 
 -- what a frame of a known kind must announce, and what it then says
 pub record Form (A : Type 0) : Type 0 where
   pub length : ℕ
   pub value : A
+
+-- The form of a frame of that kind, by what its kind announces and what its bytes say.
+abbrev pub form_of : {K A : Type 0} → (K → ℕ) → (List ℕ → K → A) → List ℕ → Option K → Option (Form A)
+form_of length says b None = None
+form_of length says b (Some k) = Some (record { length = length k; value = says b k })
 
 -- The checks of a whole frame that announces n: a length under 2, the version, the kind, the kind's length.
 abbrev pub version_check : List ℕ → ℕ → Result (Unit {0}) FrameFault
@@ -53,10 +56,14 @@ found (Ok x) = Ok (Some x)
 found (Err e) = Err e
 
 -- None at the end; a frame that is cut short stays where it is; any other is passed over by its length.
-abbrev pub read_at : {A : Type 0} → Option (Form A) → List ℕ → Head → Read A
-read_at form b Ended = record { answer = Ok None; rest = b }
-read_at form b Cut = record { answer = Err fault.Short; rest = b }
-read_at form b (Whole n) = record { answer = found (whole b n form); rest = drop (n + 2) b }
+abbrev pub read_at : {A : Type 0} → Option (Form A) → List ℕ → Result (Option ℕ) FrameFault → Read A
+read_at form b (Ok None) = record { answer = Ok None; rest = b }
+read_at form b (Err e) = record { answer = Err e; rest = b }
+read_at form b (Ok (Some n)) = record { answer = found (whole b n form); rest = drop (n + 2) b }
 
 abbrev pub read : {A : Type 0} → Option (Form A) → List ℕ → Read A
 read form b = read_at form b (head_of b)
+
+-- The next frame of the bytes that are left, by what its code tells, what its kind announces and what its bytes say.
+abbrev pub next : {K A : Type 0} → (ℕ → Option K) → (K → ℕ) → (List ℕ → K → A) → List ℕ → Read A
+next kind length says b = read (form_of length says b (kind (slice_index b 3))) b

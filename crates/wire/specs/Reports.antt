@@ -3,8 +3,9 @@ use Rattle.std.specs.Prelude.{ℕ, cond, List, [], ◌∷◌, Some, None, Option
 use Rattle.types.specs.declared.reports.Report.{Report}
 use Rattle.types.specs.declared.reports.ReportKind.{ReportKind}
 use Rattle.types.specs.declared.reports.ReportKind.TheVariants as kind
+pub use Rattle.types.specs.Reports.{report_kind}
 use Rattle.wire.specs.Layouts.{Width, one, four, fields}
-use Rattle.wire.specs.Reading.{announced, framed, Form, Read, read}
+use Rattle.wire.specs.Reading.{announced, framed, Form, form_of, Read, read}
 
 -- the number of each kind; a blank has 0, which no reader takes
 abbrev pub report_code : ReportKind → ℕ
@@ -16,14 +17,6 @@ report_code kind.Decremented = 4
 report_code kind.Quote = 5
 report_code kind.Halted = 6
 report_code kind.Closed = 7
-
-abbrev pub report_kind : ℕ → Option ReportKind
-report_kind n =
-    cond (n == 1) (Some kind.Accepted)
-    (cond (n == 2) (Some kind.Trade)
-    (cond (n == 3) (Some kind.Cancelled)
-    (cond (n == 4) (Some kind.Decremented)
-    (cond (n == 5) (Some kind.Quote) (cond (n == 6) (Some kind.Halted) (cond (n == 7) (Some kind.Closed) None))))))
 
 -- order, other, price, volume, mark
 abbrev pub report_layout : List Width
@@ -42,8 +35,7 @@ abbrev pub report_at : List ℕ → ReportKind → Report
 report_at b k = report_from k (fields report_layout b 4)
 
 abbrev pub report_form : List ℕ → Option ReportKind → Option (Form Report)
-report_form b None = None
-report_form b (Some k) = Some (record { length = announced report_layout; value = report_at b k })
+report_form b k = form_of (λ kind. announced report_layout) report_at b k
 
 -- The next report of the bytes that are left.
 abbrev pub read_report : List ℕ → Read Report

@@ -17,8 +17,6 @@ pub(crate) fn word(b: &[u8], at: usize) -> u32
 }
 
 /// What holds of every layout of numbers in bytes.
-pub fn layouts_hold() -> u8
+pub fn layouts_hold()
     ensures { Layouts }
-{
-    0
-}
+{}

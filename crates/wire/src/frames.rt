@@ -1,25 +1,29 @@
 //! What a call's frame says, before its codes are looked at.
 ghost use Rattle.std.specs.Prelude.{◌≡◌, ◌+◌, ◌≤◌, [], length};
+ghost use Rattle.std.specs.Option.{ok_or};
+ghost use Rattle.faults.specs.declared.layers.FrameFault.TheVariants as fault;
 ghost use Rattle.wire.specs.Frames.{kind_of, layout, six, trader_from, quote_from, enter_from, call_at};
 ghost use Rattle.wire.specs.Layouts.{fields};
 ghost use Rattle.wire.specs.Reading.{announced};
 
 use crate::bytes::{half, word};
+use crate::framed::Framed;
+use faults::FrameFault;
 use types::{Broker, Cancellation, OrderNumber, Price, Quote, TraderId};
 
-#[derive(Clone, Copy)]
+#[derive(Clone, Copy, Debug, PartialEq, Eq)]
 pub enum CallKind {
-    Enter,
-    Cancel,
-    Quote,
-    Halt,
-    Resume,
-    Close,
-    Enrol,
+    Enter = 1,
+    Cancel = 2,
+    Quote = 3,
+    Halt = 4,
+    Resume = 5,
+    Close = 6,
+    Enrol = 7,
 }
 
 /// The fields of an entry as they stand in its frame, with any values.
-#[derive(Clone, Copy)]
+#[derive(Clone, Copy, Debug, PartialEq, Eq)]
 pub struct EnterFrame {
     pub trader: TraderId,
     pub side: u8,
@@ -34,14 +38,14 @@ pub struct EnterFrame {
 }
 
 /// The fields of an enrolment as they stand in its frame, with any values.
-#[derive(Clone, Copy)]
+#[derive(Clone, Copy, Debug, PartialEq, Eq)]
 pub struct EnrolFrame {
     pub trader: TraderId,
     pub broker: Broker,
     pub latency_sensitive: u8,
 }
 
-#[derive(Clone, Copy)]
+#[derive(Clone, Copy, Debug, PartialEq, Eq)]
 pub enum CallFrame {
     Enter(EnterFrame),
     Cancel(Cancellation),
@@ -52,22 +56,26 @@ pub enum CallFrame {
     Enrol(EnrolFrame),
 }
 
-impl CallKind {
-    pub fn from_code(code: u8) -> Option<CallKind>
-        ensures { result ≡ kind_of code }
-    {
+impl TryFrom<u8> for CallKind {
+    type Error = FrameFault;
+
+    ghost try_from_gives = { λ code r. r ≡ ok_or (kind_of code) fault.Kind };
+
+    fn try_from(code: u8) -> Result<CallKind, FrameFault> {
         match code {
-            1 => Some(CallKind::Enter),
-            2 => Some(CallKind::Cancel),
-            3 => Some(CallKind::Quote),
-            4 => Some(CallKind::Halt),
-            5 => Some(CallKind::Resume),
-            6 => Some(CallKind::Close),
-            7 => Some(CallKind::Enrol),
-            _ => None,
+            1 => Ok(CallKind::Enter),
+            2 => Ok(CallKind::Cancel),
+            3 => Ok(CallKind::Quote),
+            4 => Ok(CallKind::Halt),
+            5 => Ok(CallKind::Resume),
+            6 => Ok(CallKind::Close),
+            7 => Ok(CallKind::Enrol),
+            _ => Err(FrameFault::Kind),
         }
     }
+}
 
+impl CallKind {
     /// The length that a frame of the kind announces.
     pub fn announced(self) -> u16
         ensures { result ≡ announced (layout self) }
@@ -119,29 +127,43 @@ fn entry_in(b: &[u8]) -> EnterFrame
     }
 }
 
-/// What the bytes of a frame of the kind say.
-pub(crate) fn call_in(b: &[u8], kind: CallKind) -> CallFrame
-    requires { 2 + announced (layout kind) ≤ length b.now }
-    ensures { result ≡ call_at b.now kind }
-{
-    match kind {
-        CallKind::Enter => CallFrame::Enter(entry_in(b)),
-        CallKind::Cancel => CallFrame::Cancel(Cancellation {
-            trader: trader_in(b),
-            order: OrderNumber {
-                number: word(b, 10),
-            },
-        }),
-        CallKind::Quote => CallFrame::Quote(quote_in(b)),
-        CallKind::Halt => CallFrame::Halt,
-        CallKind::Resume => CallFrame::Resume(quote_in(b)),
-        CallKind::Close => CallFrame::Close,
-        CallKind::Enrol => CallFrame::Enrol(EnrolFrame {
-            trader: trader_in(b),
-            broker: Broker {
-                number: half(b, 10),
-            },
-            latency_sensitive: b[12],
-        }),
+impl Framed for CallFrame {
+    type Kind = CallKind;
+
+    ghost kind_told = { kind_of };
+
+    ghost length_of = { λ kind. announced (layout kind) };
+
+    ghost said = { call_at };
+
+    fn kind(code: u8) -> Result<CallKind, FrameFault> {
+        code.try_into()
+    }
+
+    fn announced(kind: CallKind) -> u16 {
+        kind.announced()
+    }
+
+    fn read(b: &[u8], kind: CallKind) -> CallFrame {
+        match kind {
+            CallKind::Enter => CallFrame::Enter(entry_in(b)),
+            CallKind::Cancel => CallFrame::Cancel(Cancellation {
+                trader: trader_in(b),
+                order: OrderNumber {
+                    number: word(b, 10),
+                },
+            }),
+            CallKind::Quote => CallFrame::Quote(quote_in(b)),
+            CallKind::Halt => CallFrame::Halt,
+            CallKind::Resume => CallFrame::Resume(quote_in(b)),
+            CallKind::Close => CallFrame::Close,
+            CallKind::Enrol => CallFrame::Enrol(EnrolFrame {
+                trader: trader_in(b),
+                broker: Broker {
+                    number: half(b, 10),
+                },
+                latency_sensitive: b[12],
+            }),
+        }
     }
 }

@@ -2,6 +2,7 @@
 #![tactic(auto)]
 
 mod bytes;
+mod framed;
 mod frames;
 mod reader;
 mod reports;

@@ -1,37 +1,30 @@
 //! One frame after another from borrowed bytes.
 ghost use Rattle.std.specs.Prelude.{◌≡◌, ◌+◌, ◌≤◌, length, slice_index};
-ghost use Rattle.wire.specs.Reading.{head_of, version_check, whole, Read};
-ghost use Rattle.wire.specs.Frames.{kind_of, call_form, read_call};
-ghost use Rattle.wire.specs.Reports.{report_kind, report_form, read_report};
+ghost use Rattle.wire.specs.Reading.{head_of, version_check, whole, form_of, next};
+ghost use Rattle.wire.specs.Frames.{read_call};
+ghost use Rattle.wire.specs.Reports.{read_report};
 
 use crate::bytes::half;
-use crate::frames::{CallFrame, CallKind, call_in};
-use crate::reports::{kind_from_code, report_in};
+use crate::framed::Framed;
+use crate::frames::CallFrame;
 use faults::FrameFault;
 use types::Report;
 
-/// How the bytes that are left begin.
-#[derive(Clone, Copy)]
-enum Head {
-    Ended,
-    Cut,
-    Whole(u16),
-}
-
-fn head_of(b: &[u8]) -> Head
+/// The length that the next frame announces; none at the end of the bytes.
+fn head_of(b: &[u8]) -> Result<Option<u16>, FrameFault>
     ensures { result ≡ head_of b.now }
 {
-    if b.len() == 0 {
-        return Head::Ended;
+    if b.is_empty() {
+        return Ok(None);
     }
     if b.len() < 4 {
-        return Head::Cut;
+        return Err(FrameFault::Short);
     }
     let announced = half(b, 0);
     if b.len() < announced as usize + 2 {
-        return Head::Cut;
+        return Err(FrameFault::Short);
     }
-    Head::Whole(announced)
+    Ok(Some(announced))
 }
 
 fn check_version(b: &[u8], announced: u16) -> Result<(), FrameFault>
@@ -48,38 +41,17 @@ fn check_version(b: &[u8], announced: u16) -> Result<(), FrameFault>
     }
 }
 
-fn whole_call(b: &[u8], announced: u16) -> Result<CallFrame, FrameFault>
+/// What a whole frame says whose first four bytes announce so many more.
+fn whole<F: Framed>(b: &[u8], announced: u16) -> Result<F, FrameFault>
     requires { (4 ≤ length b.now) × (announced + 2 ≤ length b.now) }
-    ensures { result ≡ whole b.now announced (call_form b.now (kind_of (slice_index b.now 3))) }
+    ensures { result ≡ whole b.now announced (form_of F.length_of F.said b.now (F.kind_told (slice_index b.now 3))) }
 {
     check_version(b, announced)?;
-    match CallKind::from_code(b[3]) {
-        None => Err(FrameFault::Kind),
-        Some(kind) => {
-            if announced == kind.announced() {
-                Ok(call_in(b, kind))
-            } else {
-                Err(FrameFault::Length)
-            }
-        }
+    let kind = F::kind(b[3])?;
+    if announced != F::announced(kind) {
+        return Err(FrameFault::Length);
     }
-}
-
-fn whole_report(b: &[u8], announced: u16) -> Result<Report, FrameFault>
-    requires { (4 ≤ length b.now) × (announced + 2 ≤ length b.now) }
-    ensures { result ≡ whole b.now announced (report_form b.now (report_kind (slice_index b.now 3))) }
-{
-    check_version(b, announced)?;
-    match kind_from_code(b[3]) {
-        None => Err(FrameFault::Kind),
-        Some(kind) => {
-            if announced == 19 {
-                Ok(report_in(b, kind))
-            } else {
-                Err(FrameFault::Length)
-            }
-        }
-    }
+    Ok(F::read(b, kind))
 }
 
 /// A reader holds the bytes that it has not passed over yet.
@@ -102,22 +74,26 @@ impl<'a> FrameReader<'a> {
         self.rest.len()
     }
 
+    /// The next frame; none at the end of the bytes.
+    fn next<F: Framed>(&mut self) -> Result<Option<F>, FrameFault>
+        ensures answer { result ≡ (next F.kind_told F.length_of F.said self.old.rest.now).answer }
+        ensures rest { self.new.rest.now ≡ (next F.kind_told F.length_of F.said self.old.rest.now).rest }
+    {
+        let b = self.rest;
+        let Some(announced) = head_of(b)? else {
+            return Ok(None);
+        };
+        let (_, rest) = b.split_at(announced as usize + 2);
+        self.rest = rest;
+        whole(b, announced).map(Some)
+    }
+
     /// The next frame as a call's; none at the end of the bytes.
     pub fn next_call(&mut self) -> Result<Option<CallFrame>, FrameFault>
         ensures answer { result ≡ (read_call self.old.rest.now).answer }
         ensures rest { self.new.rest.now ≡ (read_call self.old.rest.now).rest }
     {
-        let b = self.rest;
-        match head_of(b) {
-            Head::Ended => Ok(None),
-            Head::Cut => Err(FrameFault::Short),
-            Head::Whole(announced) => {
-                let (_, rest) = b.split_at(announced as usize + 2);
-                self.rest = rest;
-                let frame = whole_call(b, announced)?;
-                Ok(Some(frame))
-            }
-        }
+        self.next()
     }
 
     /// The next frame as a report's; none at the end of the bytes.
@@ -125,16 +101,6 @@ impl<'a> FrameReader<'a> {
         ensures answer { result ≡ (read_report self.old.rest.now).answer }
         ensures rest { self.new.rest.now ≡ (read_report self.old.rest.now).rest }
     {
-        let b = self.rest;
-        match head_of(b) {
-            Head::Ended => Ok(None),
-            Head::Cut => Err(FrameFault::Short),
-            Head::Whole(announced) => {
-                let (_, rest) = b.split_at(announced as usize + 2);
-                self.rest = rest;
-                let report = whole_report(b, announced)?;
-                Ok(Some(report))
-            }
-        }
+        self.next()
     }
 }

@@ -1,51 +1,39 @@
 //! Frames of reports, of 21 bytes each.
 ghost use Rattle.std.specs.Prelude.{◌≡◌, ◌≤◌, length};
-ghost use Rattle.wire.specs.Reports.{report_code, report_kind, report_at, report_bytes};
+ghost use Rattle.wire.specs.Reading.{announced};
+ghost use Rattle.wire.specs.Reports.{report_kind, report_layout, report_at, report_bytes};
 
 use crate::bytes::word;
+use crate::framed::Framed;
+use faults::FrameFault;
 use types::{Report, ReportKind};
 
-fn code_of(kind: ReportKind) -> u8
-    ensures { result ≡ report_code kind }
-{
-    match kind {
-        ReportKind::Blank => 0,
-        ReportKind::Accepted => 1,
-        ReportKind::Trade => 2,
-        ReportKind::Cancelled => 3,
-        ReportKind::Decremented => 4,
-        ReportKind::Quote => 5,
-        ReportKind::Halted => 6,
-        ReportKind::Closed => 7,
-    }
-}
+impl Framed for Report {
+    type Kind = ReportKind;
 
-pub(crate) fn kind_from_code(code: u8) -> Option<ReportKind>
-    ensures { result ≡ report_kind code }
-{
-    match code {
-        1 => Some(ReportKind::Accepted),
-        2 => Some(ReportKind::Trade),
-        3 => Some(ReportKind::Cancelled),
-        4 => Some(ReportKind::Decremented),
-        5 => Some(ReportKind::Quote),
-        6 => Some(ReportKind::Halted),
-        7 => Some(ReportKind::Closed),
-        _ => None,
-    }
-}
+    ghost kind_told = { report_kind };
 
-pub(crate) fn report_in(b: &[u8], kind: ReportKind) -> Report
-    requires { 21 ≤ length b.now }
-    ensures { result ≡ report_at b.now kind }
-{
-    Report {
-        kind,
-        order: word(b, 4),
-        other: word(b, 8),
-        price: word(b, 12),
-        volume: word(b, 16),
-        mark: b[20],
+    ghost length_of = { λ _. announced report_layout };
+
+    ghost said = { report_at };
+
+    fn kind(code: u8) -> Result<ReportKind, FrameFault> {
+        ReportKind::try_from(code).map_err(|_| FrameFault::Kind)
+    }
+
+    fn announced(_kind: ReportKind) -> u16 {
+        19
+    }
+
+    fn read(b: &[u8], kind: ReportKind) -> Report {
+        Report {
+            kind,
+            order: word(b, 4),
+            other: word(b, 8),
+            price: word(b, 12),
+            volume: word(b, 16),
+            mark: b[20],
+        }
     }
 }
 
@@ -53,32 +41,12 @@ pub(crate) fn report_in(b: &[u8], kind: ReportKind) -> Report
 pub fn report_bytes(report: Report) -> [u8; 21]
     ensures { result ≡ report_bytes report }
 {
-    let code = code_of(report.kind);
-    let [a, b, c, d] = report.order.to_be_bytes();
-    let [e, f, g, h] = report.other.to_be_bytes();
-    let [i, j, k, l] = report.price.to_be_bytes();
-    let [m, n, o, p] = report.volume.to_be_bytes();
-    [
-        0,
-        19,
-        1,
-        code,
-        a,
-        b,
-        c,
-        d,
-        e,
-        f,
-        g,
-        h,
-        i,
-        j,
-        k,
-        l,
-        m,
-        n,
-        o,
-        p,
-        report.mark,
-    ]
+    let mut bytes = [0; 21];
+    bytes[0..4].copy_from_slice(&[0, 19, 1, report.kind as u8]);
+    bytes[4..8].copy_from_slice(&report.order.to_be_bytes());
+    bytes[8..12].copy_from_slice(&report.other.to_be_bytes());
+    bytes[12..16].copy_from_slice(&report.price.to_be_bytes());
+    bytes[16..20].copy_from_slice(&report.volume.to_be_bytes());
+    bytes[20] = report.mark;
+    bytes
 }
