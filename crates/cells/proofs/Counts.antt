@@ -1,9 +1,7 @@
 -- Sums over the cells: how many are used, and how far the keys stand from their homes.
-use Rattle.std.proofs.Common.{◌≡◌, ℕ, zero, suc, ◌+◌, ◌<◌, ◌≤◌, List, [], ◌∷◌, length, set, refl, ap, ◌∙◌, arith, length-set}
+use Rattle.std.proofs.Common.{◌≡◌, ℕ, zero, suc, ◌+◌, ◌<◌, ◌≤◌, List, [], ◌∷◌, length, Some, None, set, refl, ap, ◌∙◌, arith, length-set}
 use Rattle.std.proofs.lemmas.List.{get_or-set_other}
-use Rattle.cells.specs.declared.cell.Cell.{Cell}
-use Rattle.cells.specs.declared.cell.Cell.TheVariants.{Free, Used}
-use Rattle.cells.specs.Cells.{taken, at, gap, home}
+use Rattle.cells.specs.Cells.{Cell, taken, at, gap, home}
 
 module _ {K V : Type 0} where
   -- the sum of what each cell weighs at its place
@@ -17,52 +15,52 @@ module _ {K V : Type 0} where
   weigh_set f (d ∷ cs) (suc i) c l = omega (arith, weigh_set (λ j. f (suc j)) cs i c (omega arith))
 
   -- a cell that goes over to a free place weighs what it weighs there
-  pub weigh_moved : (f : ℕ → Cell K V → ℕ) (cs : List (Cell K V)) (i j : ℕ) (c : Cell K V) → i < length cs → j < length cs → (i ≡ j → ⊥) → at cs i ≡ Free → at cs j ≡ c
-      → weigh f (set (set cs j Free) i c) + f i Free + f j c ≡ weigh f cs + f i c + f j Free
+  pub weigh_moved : (f : ℕ → Cell K V → ℕ) (cs : List (Cell K V)) (i j : ℕ) (c : Cell K V) → i < length cs → j < length cs → (i ≡ j → ⊥) → at cs i ≡ None → at cs j ≡ c
+      → weigh f (set (set cs j None) i c) + f i None + f j c ≡ weigh f cs + f i c + f j None
   weigh_moved f cs i j c l m p h g =
-      let a = weigh_set f cs j Free m in
-      let b = weigh_set f (set cs j Free) i c (omega (arith, length-set cs j Free)) in
+      let a = weigh_set f cs j None m in
+      let b = weigh_set f (set cs j None) i c (omega (arith, length-set cs j None)) in
       let x : f j (at cs j) ≡ f j c = ap (f j) g in
-      let y : f i (at (set cs j Free) i) ≡ f i Free = ap (f i) (get_or-set_other cs j i Free Free p ∙ h) in
+      let y : f i (at (set cs j None) i) ≡ f i None = ap (f i) (get_or-set_other cs j i None None p ∙ h) in
       omega (arith, a, b, x, y)
 
   -- 1 for a cell that is used
   abbrev pub one : Cell K V → ℕ
-  one Free = 0
-  one (Used q v) = 1
+  one None = 0
+  one (Some x) = 1
 
   taken_weigh : (cs : List (Cell K V)) → taken cs ≡ weigh (λ _. one) cs
   taken_weigh [] = refl
-  taken_weigh (Free ∷ cs) = omega (arith, taken_weigh cs)
-  taken_weigh (Used q v ∷ cs) = omega (arith, taken_weigh cs)
+  taken_weigh (None ∷ cs) = omega (arith, taken_weigh cs)
+  taken_weigh (Some x ∷ cs) = omega (arith, taken_weigh cs)
 
   pub taken_set : (cs : List (Cell K V)) (i : ℕ) (c : Cell K V) → i < length cs → taken (set cs i c) + one (at cs i) ≡ taken cs + one c
   taken_set cs i c l = omega (arith, weigh_set (λ _. one) cs i c l, taken_weigh cs, taken_weigh (set cs i c))
 
-  pub taken_moved : (cs : List (Cell K V)) (i j : ℕ) (c : Cell K V) → i < length cs → j < length cs → (i ≡ j → ⊥) → at cs i ≡ Free → at cs j ≡ c
-      → taken (set (set cs j Free) i c) ≡ taken cs
+  pub taken_moved : (cs : List (Cell K V)) (i j : ℕ) (c : Cell K V) → i < length cs → j < length cs → (i ≡ j → ⊥) → at cs i ≡ None → at cs j ≡ c
+      → taken (set (set cs j None) i c) ≡ taken cs
   taken_moved cs i j c l m p h g =
-      omega (arith, weigh_moved (λ _. one) cs i j c l m p h g, taken_weigh cs, taken_weigh (set (set cs j Free) i c))
+      omega (arith, weigh_moved (λ _. one) cs i j c l m p h g, taken_weigh cs, taken_weigh (set (set cs j None) i c))
 
   pub taken_most : (cs : List (Cell K V)) → taken cs ≤ length cs
   taken_most [] = omega arith
-  taken_most (Free ∷ cs) = omega (arith, taken_most cs)
-  taken_most (Used q v ∷ cs) = omega (arith, taken_most cs)
+  taken_most (None ∷ cs) = omega (arith, taken_most cs)
+  taken_most (Some x ∷ cs) = omega (arith, taken_most cs)
 
-  pub taken_all : (cs : List (Cell K V)) → ((i : ℕ) → i < length cs → at cs i ≡ Free → ⊥) → taken cs ≡ length cs
+  pub taken_all : (cs : List (Cell K V)) → ((i : ℕ) → i < length cs → at cs i ≡ None → ⊥) → taken cs ≡ length cs
   taken_all [] f = refl
-  taken_all (Free ∷ cs) f = absurd (f 0 (omega arith) refl)
-  taken_all (Used q v ∷ cs) f = omega (arith, taken_all cs (λ i l. f (suc i) (omega arith)))
+  taken_all (None ∷ cs) f = absurd (f 0 (omega arith) refl)
+  taken_all (Some x ∷ cs) f = omega (arith, taken_all cs (λ i l. f (suc i) (omega arith)))
 
-  pub taken_none : (cs : List (Cell K V)) → ((i : ℕ) → i < length cs → at cs i ≡ Free) → taken cs ≡ 0
+  pub taken_none : (cs : List (Cell K V)) → ((i : ℕ) → i < length cs → at cs i ≡ None) → taken cs ≡ 0
   taken_none [] f = refl
-  taken_none (Free ∷ cs) f = taken_none cs (λ i l. f (suc i) (omega arith))
-  taken_none (Used q v ∷ cs) f = let h = f 0 (omega arith) in let z : ◌≡◌ {A = ℕ} 0 1 = cc in absurd (omega arith)
+  taken_none (None ∷ cs) f = taken_none cs (λ i l. f (suc i) (omega arith))
+  taken_none (Some x ∷ cs) f = let h = f 0 (omega arith) in let z : ◌≡◌ {A = ℕ} 0 1 = cc in absurd (omega arith)
 
   -- how far a key stands from its home
   abbrev pub off : (K → ℕ) → ℕ → ℕ → Cell K V → ℕ
-  off number n i Free = 0
-  off number n i (Used k v) = gap n (home number n k) i
+  off number n i None = 0
+  off number n i (Some x) = gap n (home number n x.0) i
 
   -- how far the keys stand from their homes, in all
   abbrev pub away : (K → ℕ) → ℕ → List (Cell K V) → ℕ

@@ -2,8 +2,7 @@
 use Rattle.std.proofs.Common.{ℕ, List, length}
 use mathlib.Core.HLevel.{⊥_prop, Π_prop, →_prop}
 use native.Mathlib.Nat.{ℕ_set}
-use Rattle.cells.specs.declared.cell.Cell.{Cell}
-use Rattle.cells.specs.Cells.{at, Once, Reached, Sound}
+use Rattle.cells.specs.Cells.{Cell, at, Once, Reached, Sound}
 
 module _ {K V : Type 0} (number : K → ℕ) where
   once_prop : (f : ℕ → Cell K V) → IsProp (Once f)

@@ -1,7 +1,5 @@
 -- Cells that hold keys with their values: what each key finds, and where a key may stand.
 use Rattle.std.specs.Prelude.{◌≡◌, ℕ, ◌+◌, ◌-◌, ◌*◌, ◌/◌, ◌%◌, ◌<◌, Bool, cond, List, [], ◌∷◌, length, Some, None, Option, ◌==◌, ◌≢◌, nat_le, slice_index_or}
-use Rattle.cells.specs.declared.cell.Cell.{Cell}
-use Rattle.cells.specs.declared.cell.Cell.TheVariants.{Free, Used}
 
 -- A number spread over 32 bits: the upper half of its product with 2 ^ 64 by the golden ratio.
 abbrev pub scattered : ℕ → ℕ
@@ -19,31 +17,35 @@ after n p = cond (p + 1 == n) 0 (p + 1)
 abbrev pub home : {K : Type 0} → (K → ℕ) → ℕ → K → ℕ
 home number n k = number k % n
 
+-- a free cell, or one used by a key and its value
+abbrev pub Cell : Type 0 → Type 0 → Type 0
+Cell K V = Option (K × V)
+
 module _ {K V : Type 0} where
   -- what a key finds
   abbrev pub lookup : (K → K → Bool) → List (Cell K V) → K → Option V
   lookup equal [] k = None
-  lookup equal (Free ∷ cells) k = lookup equal cells k
-  lookup equal (Used q v ∷ cells) k = cond (equal q k) (Some v) (lookup equal cells k)
+  lookup equal (None ∷ cells) k = lookup equal cells k
+  lookup equal (Some e ∷ cells) k = cond (equal e.0 k) (Some e.1) (lookup equal cells k)
 
   -- how many cells are used
   abbrev pub taken : List (Cell K V) → ℕ
   taken [] = 0
-  taken (Free ∷ cells) = taken cells
-  taken (Used q v ∷ cells) = 1 + taken cells
+  taken (None ∷ cells) = taken cells
+  taken (Some e ∷ cells) = 1 + taken cells
 
   -- the cell at a place; past the end every place is free
   abbrev pub at : List (Cell K V) → ℕ → Cell K V
-  at cells i = slice_index_or cells i Free
+  at cells i = slice_index_or cells i None
 
   -- each key stands once
   abbrev pub Once : (ℕ → Cell K V) → Type 0
-  Once f = (i j : ℕ) (k : K) (v w : V) → f i ≡ Used k v → f j ≡ Used k w → i ≡ j
+  Once f = (i j : ℕ) (k : K) (v w : V) → f i ≡ Some (k, v) → f j ≡ Some (k, w) → i ≡ j
 
   -- On the way from its home to where a key stands no place is free, but for the places named.
   abbrev pub Reached : (K → ℕ) → ℕ → (ℕ → Type 0) → (ℕ → Cell K V) → Type 0
   Reached number n Named f =
-      (i j : ℕ) (k : K) (v : V) → f i ≡ Used k v → j < n → gap n (home number n k) j < gap n (home number n k) i → (Named j → ⊥) → f j ≢ Free
+      (i j : ℕ) (k : K) (v : V) → f i ≡ Some (k, v) → j < n → gap n (home number n k) j < gap n (home number n k) i → (Named j → ⊥) → f j ≢ None
 
   -- what a search relies on
   pub record Rules (number : K → ℕ) (n : ℕ) (Named : ℕ → Type 0) (f : ℕ → Cell K V) : Type 0 where

@@ -1,4 +1,3 @@
 pub mod Cells
 pub mod Searching
 pub mod Keys
-pub mod Letters

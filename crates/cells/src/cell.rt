@@ -1,6 +1,4 @@
 //! A cell.
-#[derive(Clone, Copy)]
-pub enum Cell<K, V> {
-    Free,
-    Used(K, V),
-}
+
+/// A free cell, or one used by a key and its value.
+pub type Cell<K, V> = Option<(K, V)>;

@@ -12,4 +12,4 @@ mod search;
 
 pub use cell::Cell;
 pub use key::{Key, scatter};
-pub use search::{Seek, clear, find, locate, next_place, value_at};
+pub use search::{clear, find, locate, next_place, value_at};

@@ -1,5 +1,6 @@
-use Rattle.cells.proofs.Walks.{Walk}
+use Rattle.std.proofs.Common.{length}
+use Rattle.cells.proofs.Walks.{Passed}
 use Rattle.cells.proofs.search.locate.Given as goal
 
-abbrev pub invariant-loop-i : goal.invariant-loop-i
-invariant-loop-i g l = Walk g.K.Key.equal g.met.K.Key.decides g.K.Key.number l.cells l.key l.i l.p
+abbrev pub invariant-loop-p : goal.invariant-loop-p
+invariant-loop-p g l = Passed g.K.Key.number l.cells l.key (length l.yielded)
