@@ -1,5 +1,5 @@
 -- What a call that passed its checks is known to have.
-use Rattle.std.proofs.Common.{◌≡◌, ℕ, Bool, true, false, Some, None, Ok, Err, Option, refl, arith}
+use Rattle.std.proofs.Common.{◌≡◌, ℕ, Bool, true, false, Some, None, Ok, Err, Option, refl, arith, rules}
 use Rattle.std.proofs.lemmas.Bool.Decides.{nat_tests}
 use Rattle.types.specs.declared.money.Price.{Price}
 use Rattle.types.specs.declared.quotes.Quote.{Quote}
@@ -15,15 +15,15 @@ use Rattle.wire.specs.Trips.{Present}
 -- both of two checks passed
 pub first : (a b : Checked) → then a b ≡ Ok tt → a ≡ Ok tt
 first (Ok tt) b e = refl
-first (Err f) b e = absurd (let z : ◌≡◌ {A = ℕ} 0 1 = cc in omega arith)
+first (Err f) b e = search rules
 
 pub second : (a b : Checked) → then a b ≡ Ok tt → b ≡ Ok tt
 second (Ok tt) b e = e
-second (Err f) b e = absurd (let z : ◌≡◌ {A = ℕ} 0 1 = cc in omega arith)
+second (Err f) b e = search rules
 
 passed : (t : Bool) (f : FieldFault) → test t f ≡ Ok tt → t ≡ true
 passed true f e = refl
-passed false f e = absurd (let z : ◌≡◌ {A = ℕ} 0 1 = cc in omega arith)
+passed false f e = search rules
 
 some_price : (p : Price) → on_tick p.quarters ≡ true → price_unless_zero p.quarters ≡ Some p
 some_price p e = grind (arith, nat_tests)
