@@ -101,18 +101,16 @@ enrolment_was f e h = grind (arith, flag_told)
 
 was : (f : CallFrame) (c : Call) → decoded f ≡ Ok c → encoded c ≡ f
 was (frame.Enter f) c h =
-    let (e, (eh, h₁)) = bound (decoded_entry f) (λ e. Ok (call.Enter e)) c h in
-    let is : c ≡ call.Enter e = cc in
-    ap encoded is ∙ ap frame.Enter (entry_was f e eh)
+    let (e, (eh, h₁)) = bound (decoded_entry f) _ c h in
+    ap encoded (sym (same _ c h₁)) ∙ ap frame.Enter (entry_was f e eh)
 was (frame.Cancel x) c h = search rules
 was (frame.Quote q) c h = search rules
 was frame.Halt c h = search rules
 was (frame.Resume q) c h = search rules
 was frame.Close c h = search rules
 was (frame.Enrol f) c h =
-    let (e, (eh, h₁)) = bound (decoded_enrolment f) (λ e. Ok (call.Enrol e)) c h in
-    let is : c ≡ call.Enrol e = cc in
-    ap encoded is ∙ ap frame.Enrol (enrolment_was f e eh)
+    let (e, (eh, h₁)) = bound (decoded_enrolment f) _ c h in
+    ap encoded (sym (same _ c h₁)) ∙ ap frame.Enrol (enrolment_was f e eh)
 
 -- an accepted call came as a frame, decoded
 frame_was : (lot : Lot) (a : Result (Option CallFrame) FrameFault) (c : Call) → taken lot a ≡ Ok (Some c) → (f : CallFrame) × ((a ≡ Ok (Some f)) × (decoded f ≡ Ok c))
@@ -121,8 +119,7 @@ frame_was lot (Ok None) c h = search rules
 frame_was lot (Ok (Some f)) c h =
     let (d, (dh, h₁)) = bound (decoded f) (checked lot) (Some c) h in
     let (u, (uh, h₂)) = bound (check lot d) (λ _. Ok (Some d)) (Some c) h₁ in
-    let is : d ≡ c = cc in
-    (f, (refl, dh ∙ ap (λ (x : Call). Ok x) is))
+    (f, (refl, cc))
 
 pub accepted : (lot : Lot) (b : List ℕ) (c : Call) → Bytes b → (received lot b).answer ≡ Ok (Some c) → b ≡ written c ++ (received lot b).rest
 accepted lot b c a h =

@@ -21,16 +21,9 @@ pub second : (a b : Checked) → then a b ≡ Ok tt → b ≡ Ok tt
 second (Ok tt) b e = e
 second (Err f) b e = search rules
 
-passed : (t : Bool) (f : FieldFault) → test t f ≡ Ok tt → t ≡ true
-passed true f e = refl
-passed false f e = search rules
-
-some_price : (p : Price) → on_tick p.quarters ≡ true → price_unless_zero p.quarters ≡ Some p
-some_price p e = grind (arith, nat_tests)
-
 present : (s : Option Price) (f : CallField) → side_check s f ≡ Ok tt → price_unless_zero (price_or_zero s) ≡ s
 present None f e = refl
-present (Some p) f e = some_price p (passed (on_tick p.quarters) (fault.Price f) e)
+present (Some p) f e = grind (arith, nat_tests)
 
 pub quoted : (q : Quote) → quote_check q ≡ Ok tt → Present q
 quoted q e = (
