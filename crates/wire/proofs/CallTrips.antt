@@ -1,6 +1,7 @@
 -- The frames of each kind of call, both ways.
 use Rattle.std.proofs.Common.{◌≡◌, ℕ, ◌+◌, ◌<◌, ◌≤◌, Bool, true, false, cond, eqb, List, [], ◌∷◌, ◌++◌, length, get_or, drop, Some, None, Ok, Option, sym, refl, ap, ◌∙◌, arith, rules}
 use Rattle.std.proofs.lemmas.Bool.Decides.{nat_tests}
+use Rattle.std.proofs.lemmas.Grind.{common_steps}
 use Rattle.types.specs.declared.money.Price.{Price}
 use Rattle.types.specs.declared.quotes.Quote.{Quote}
 use Rattle.types.specs.Reports.{price_or_zero, price_unless_zero}
@@ -30,47 +31,23 @@ small_frame k = search rules
 
 -- Six letters are those at their six places.
 six : (l : List ℕ) → length l ≡ 6 → get_or l 0 0 ∷ get_or l 1 0 ∷ get_or l 2 0 ∷ get_or l 3 0 ∷ get_or l 4 0 ∷ get_or l 5 0 ∷ [] ≡ l
-six [] e = absurd (omega arith)
-six (a ∷ []) e = absurd (omega arith)
-six (a ∷ b ∷ []) e = absurd (omega arith)
-six (a ∷ b ∷ c ∷ []) e = absurd (omega arith)
-six (a ∷ b ∷ c ∷ d ∷ []) e = absurd (omega arith)
-six (a ∷ b ∷ c ∷ d ∷ f ∷ []) e = absurd (omega arith)
-six (a ∷ b ∷ c ∷ d ∷ f ∷ g ∷ []) e = refl
-six (a ∷ b ∷ c ∷ d ∷ f ∷ g ∷ h ∷ l) e = absurd (omega arith)
+six l e = grind (arith, common_steps)
 
 quote_again : (q : Quote) → Present q → quote_from (sides q) ≡ q
-quote_again q p =
-    ap (λ (x : Option Price). record { bid = x; offer = price_unless_zero (price_or_zero q.offer) }) p.0 ∙ ap (λ (y : Option Price). record { bid = q.bid; offer = y }) p.1
+quote_again q p = rw (p.0, p.1)
 
 -- What the numbers of a call say is the call.
 again : (f : CallFrame) → Sound f → call_from (kind_in f) (numbers f) ≡ f
-again (frame.Enter e) s = ap (λ (l : List ℕ). frame.Enter (record {
-  trader = record { letters = l };
-  side = e.side;
-  kind = e.kind;
-  term = e.term;
-  marks = e.marks;
-  limit = e.limit;
-  volume = e.volume;
-  display = e.display;
-  instruction = e.instruction;
-  key = e.key;
-})) (six e.trader.letters s)
-again (frame.Cancel c) s = ap (λ (l : List ℕ). frame.Cancel (record { trader = record { letters = l }; order = c.order })) (six c.trader.letters s)
+again (frame.Enter e) s = rw (six e.trader.letters s)
+again (frame.Cancel c) s = rw (six c.trader.letters s)
 again (frame.Quote q) s = ap frame.Quote (quote_again q s)
 again frame.Halt s = refl
 again (frame.Resume q) s = ap frame.Resume (quote_again q s)
 again frame.Close s = refl
-again (frame.Enrol e) s =
-    ap (λ (l : List ℕ). frame.Enrol (record { trader = record { letters = l }; broker = e.broker; latency_sensitive = e.latency_sensitive })) (six e.trader.letters s)
+again (frame.Enrol e) s = rw (six e.trader.letters s)
 
 side_back : (n : ℕ) → price_or_zero (price_unless_zero n) ≡ n
-side_back n = go (eqb n 0) refl
-  where
-    go : (t : Bool) → eqb n 0 ≡ t → price_or_zero (cond t None (Some (record { quarters = n }))) ≡ n
-    go true e = grind (arith, nat_tests)
-    go false e = refl
+side_back n = grind (arith, nat_tests)
 
 -- The call that bytes say has their numbers and their kind.
 numbers_at : (b : List ℕ) (k : CallKind) → fields (layout k) b 4 ≡ numbers (call_at b k)
@@ -83,13 +60,7 @@ numbers_at b kind.Close = refl
 numbers_at b kind.Enrol = refl
 
 kind_at : (b : List ℕ) (k : CallKind) → kind_in (call_at b k) ≡ k
-kind_at b kind.Enter = refl
-kind_at b kind.Cancel = refl
-kind_at b kind.Quote = refl
-kind_at b kind.Halt = refl
-kind_at b kind.Resume = refl
-kind_at b kind.Close = refl
-kind_at b kind.Enrol = refl
+kind_at b k = search rules
 
 pub call_reads : (f : CallFrame) (more : List ℕ) → Sound f → Fit (layout (kind_in f)) (numbers f) → read_call (call_bytes f ++ more) ≡ record { answer = Ok (Some f); rest = more }
 call_reads f more s fit =

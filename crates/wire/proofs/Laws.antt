@@ -1,5 +1,5 @@
 -- The two laws of layouts, one field at a time.
-use Rattle.std.proofs.Common.{◌≡◌, ℕ, zero, suc, ◌+◌, ◌*◌, ◌/◌, ◌%◌, ◌<◌, ◌≤◌, List, [], ◌∷◌, ◌++◌, length, get_or, take, drop, sym, refl, ap, ◌∙◌, append_assoc, add-one, arith, length-append, drop-cons, get_or-append-add}
+use Rattle.std.proofs.Common.{◌≡◌, ℕ, zero, suc, ◌+◌, ◌*◌, ◌/◌, ◌%◌, ◌<◌, ◌≤◌, List, [], ◌∷◌, ◌++◌, length, get_or, take, drop, sym, refl, ap, ◌∙◌, append_assoc, add-one, arith, rules, length-append, drop-cons, get_or-append-add}
 use lib.Seq.{get_or-append_seam}
 use Rattle.std.proofs.lemmas.Nat.{shr-shr, div-add-mod'}
 use Rattle.wire.specs.Layouts.{Width, one, two, four, size, limit, number, bytes, total, fields, laid, Fit, Bytes}
@@ -14,20 +14,14 @@ joined n h =
 pub split : (a b c d : ℕ) → a < 256 → b < 256 → c < 256 → d < 256 → (more : List ℕ)
     → bytes four (a * 16777216 + b * 65536 + c * 256 + d) more ≡ a ∷ b ∷ c ∷ d ∷ more
 split a b c d ha hb hc hd more =
-    let e : (a * 16777216 + b * 65536 + c * 256 + d) / 16777216 % 256 ≡ a = omega arith in
-    let f : (a * 16777216 + b * 65536 + c * 256 + d) / 65536 % 256 ≡ b = omega arith in
-    let g : (a * 16777216 + b * 65536 + c * 256 + d) / 256 % 256 ≡ c = omega arith in
-    let k : (a * 16777216 + b * 65536 + c * 256 + d) % 256 ≡ d = omega arith in
-    cc
+    grind arith
 
 halves : (a b : ℕ) → a < 256 → b < 256 → (more : List ℕ) → bytes two (a * 256 + b) more ≡ a ∷ b ∷ more
 halves a b ha hb more =
-    let e : (a * 256 + b) / 256 % 256 ≡ a = omega arith in
-    let f : (a * 256 + b) % 256 ≡ b = omega arith in
-    cc
+    grind arith
 
 pub below : (b : List ℕ) → Bytes b → (i : ℕ) → get_or b i 0 < 256
-below [] a i = omega arith
+below [] a i = search rules
 below (x ∷ xs) a zero = a.0
 below (x ∷ xs) a (suc i) = below xs a.1 i
 
