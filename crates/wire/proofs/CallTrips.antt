@@ -51,13 +51,7 @@ side_back n = grind (arith, nat_tests)
 
 -- The call that bytes say has their numbers and their kind.
 numbers_at : (b : List ℕ) (k : CallKind) → fields (layout k) b 4 ≡ numbers (call_at b k)
-numbers_at b kind.Enter = refl
-numbers_at b kind.Cancel = refl
-numbers_at b kind.Quote = let x = side_back (be32 b 4) in let y = side_back (be32 b 8) in cc
-numbers_at b kind.Halt = refl
-numbers_at b kind.Resume = let x = side_back (be32 b 4) in let y = side_back (be32 b 8) in cc
-numbers_at b kind.Close = refl
-numbers_at b kind.Enrol = refl
+numbers_at b k = grind (arith, side_back)
 
 kind_at : (b : List ℕ) (k : CallKind) → kind_in (call_at b k) ≡ k
 kind_at b k = search rules

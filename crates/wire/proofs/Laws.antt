@@ -32,19 +32,8 @@ first b i n h = rw (add-one, drop-cons b i 0 h)
 -- one field again: more is what follows it
 again : (w : Width) (b : List ℕ) → Bytes b → (i n : ℕ) → i + (size w + n) ≤ length b
     → bytes w (number w b i) (take n (drop (i + size w) b)) ≡ take (size w + n) (drop i b)
-again one b a i n h =
-    let p : i < length b = omega arith in
-    let e : 1 + n ≡ suc n = omega arith in
-    rw e (sym (first b i n p))
-again two b a i n h =
-    let p : i < length b = omega arith in
-    let q : i + 1 < length b = omega arith in
-    let e : 2 + n ≡ suc (suc n) = omega arith in
-    let f : i + 1 + 1 ≡ i + 2 = omega arith in
-    let u = first b i (suc n) p in
-    let v = first b (i + 1) n q in
-    let w = halves (get_or b i 0) (get_or b (i + 1) 0) (below b a i) (below b a (i + 1)) (take n (drop (i + 2) b)) in
-    cc
+again one b a i n h = grind (arith, first)
+again two b a i n h = grind (arith, first, halves, below)
 again four b a i n h =
     let p : i < length b = omega arith in
     let q : i + 1 < length b = omega arith in
@@ -75,19 +64,13 @@ found four n before more h = rw (get_or-append_seam, get_or-append-add, get_or-a
 
 -- what is laid first goes over to what came before
 over : (w : Width) (n : ℕ) (laid more : List ℕ) → bytes w n laid ++ more ≡ bytes w n [] ++ (laid ++ more)
-over one n laid more = refl
-over two n laid more = refl
-over four n laid more = refl
+over w n laid more = search rules
 
 ahead : (w : Width) (n : ℕ) (laid more : List ℕ) → bytes w n laid ++ more ≡ bytes w n (laid ++ more)
-ahead one n laid more = refl
-ahead two n laid more = refl
-ahead four n laid more = refl
+ahead w n laid more = search rules
 
 long : (w : Width) (n : ℕ) → length (bytes w n []) ≡ size w
-long one n = refl
-long two n = refl
-long four n = refl
+long w n = search rules
 
 pub read_again : (ws : List Width) (vs before more : List ℕ) → Fit ws vs → fields ws (before ++ (laid ws vs ++ more)) (length before) ≡ vs
 read_again [] [] before more f = refl

@@ -26,9 +26,7 @@ read_whole form v n b e u h k f =
     rw (head_is b n e l k, f, version_is b n h u, formed_is n v)
 
 field_length : (w : Width) (n : ℕ) (more : List ℕ) → length (bytes w n more) ≡ size w + length more
-field_length one n more = omega arith
-field_length two n more = omega arith
-field_length four n more = omega arith
+field_length w n more = grind arith
 
 laid_length : (ws : List Width) (vs : List ℕ) → Fit ws vs → length (laid ws vs) ≡ total ws
 laid_length [] vs f = refl
@@ -76,11 +74,7 @@ pub record Was {A : Type 0} (form : Option (Form A)) (v : A) (n : ℕ) (b : List
 
 same_form : {A : Type 0} (t : Bool) (f : Form A) (n : ℕ) (v : A) → eqb n f.length ≡ t → found (cond t (Ok f.value) (Err fault.Length)) ≡ Ok (Some v)
     → ◌≡◌ {A = Option (Form A)} (Some f) (Some (record { length = n; value = v }))
-same_form {A} true f n v e h =
-    let l : n ≡ f.length = grind (arith, nat_tests) in
-    let w : f.value ≡ v = cc in
-    ap (λ (x : ℕ). Some (record { length = x; value = f.value })) (sym l) ∙ ap (λ (y : A). Some (record { length = n; value = y })) w
-same_form false f n v e h = search rules
+same_form t f n v e h = grind (arith, nat_tests)
 
 form_was : {A : Type 0} (c : Result (Unit {0}) FrameFault) (form : Option (Form A)) (n : ℕ) (v : A) → found (after c (formed n form)) ≡ Ok (Some v)
     → (c ≡ Ok tt) × (form ≡ Some (record { length = n; value = v }))
