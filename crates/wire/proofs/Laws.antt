@@ -35,20 +35,8 @@ again : (w : Width) (b : List ℕ) → Bytes b → (i n : ℕ) → i + (size w +
 again one b a i n h = grind (arith, first)
 again two b a i n h = grind (arith, first, halves, below)
 again four b a i n h =
-    let p : i < length b = omega arith in
-    let q : i + 1 < length b = omega arith in
-    let r : i + 2 < length b = omega arith in
-    let s : i + 3 < length b = omega arith in
-    let e : 4 + n ≡ suc (suc (suc (suc n))) = omega arith in
-    let f : i + 1 + 1 ≡ i + 2 = omega arith in
-    let g : i + 2 + 1 ≡ i + 3 = omega arith in
-    let k : i + 3 + 1 ≡ i + 4 = omega arith in
-    let t = first b i (suc (suc (suc n))) p in
-    let u = first b (i + 1) (suc (suc n)) q in
-    let v = first b (i + 2) (suc n) r in
-    let x = first b (i + 3) n s in
     let w = split (get_or b i 0) (get_or b (i + 1) 0) (get_or b (i + 2) 0) (get_or b (i + 3) 0) (below b a i) (below b a (i + 1)) (below b a (i + 2)) (below b a (i + 3)) (take n (drop (i + 4) b)) in
-    cc
+    w ∙ grind (arith, first)
 
 pub laid_again : (ws : List Width) (b : List ℕ) (i : ℕ) → Bytes b → i + total ws ≤ length b → laid ws (fields ws b i) ≡ take (total ws) (drop i b)
 laid_again [] b i a h = refl
