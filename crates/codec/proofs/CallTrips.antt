@@ -10,7 +10,7 @@ use Rattle.faults.specs.declared.layers.CallField.TheVariants as at
 use Rattle.faults.specs.declared.layers.FieldFault.{FieldFault}
 use Rattle.faults.specs.declared.layers.FrameFault.{FrameFault}
 use Rattle.checks.specs.Checks.{Checked, trader_check, broker_check, check}
-use Rattle.codes.specs.Codes.{side_code, side_of, kind_code, kind_of, term_code, term_of, marks_code, marks_of, instruction_code, instruction_of, flag_code, flag_of}
+use Rattle.codes.specs.Codes.{side_code, side_of, kind_code, kind_of, term_code, term_of, marks_code, marks_of, instruction_code, instruction_of, flag_code}
 use Rattle.codes.specs.contracts.sides.SideCoded.TheImpl.Laws.{kept-law as side_kept, told-law as side_told}
 use Rattle.codes.specs.contracts.kinds.OrderKindCoded.TheImpl.Laws.{kept-law as kind_kept, told-law as kind_told}
 use Rattle.codes.specs.contracts.terms.TimeInForceCoded.TheImpl.Laws.{kept-law as term_kept, told-law as term_told}

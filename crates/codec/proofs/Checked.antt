@@ -1,15 +1,12 @@
 -- What a call that passed its checks is known to have.
-use Rattle.std.proofs.Common.{◌≡◌, ℕ, Bool, true, false, Some, None, Ok, Err, Option, refl, arith, rules}
+use Rattle.std.proofs.Common.{◌≡◌, Some, None, Ok, Err, Option, refl, arith, rules}
 use Rattle.std.proofs.lemmas.Bool.Decides.{nat_tests}
 use Rattle.types.specs.declared.money.Price.{Price}
 use Rattle.types.specs.declared.quotes.Quote.{Quote}
 use Rattle.types.specs.Reports.{price_or_zero, price_unless_zero}
 use Rattle.faults.specs.declared.layers.CallField.{CallField}
 use Rattle.faults.specs.declared.layers.CallField.TheVariants as at
-use Rattle.faults.specs.declared.layers.FieldFault.{FieldFault}
-use Rattle.faults.specs.declared.layers.FieldFault.TheVariants as fault
-use Rattle.checks.specs.Values.{on_tick}
-use Rattle.checks.specs.Checks.{Checked, test, then, side_check, quote_check}
+use Rattle.checks.specs.Checks.{Checked, then, side_check, quote_check}
 use Rattle.wire.specs.Trips.{Present}
 
 -- both of two checks passed

@@ -1,17 +1,15 @@
 -- The frames of each kind of call, both ways.
-use Rattle.std.proofs.Common.{◌≡◌, ℕ, ◌+◌, ◌<◌, ◌≤◌, Bool, true, false, cond, eqb, List, [], ◌∷◌, ◌++◌, length, get_or, drop, Some, None, Ok, Option, sym, refl, ap, ◌∙◌, arith, rules}
+use Rattle.std.proofs.Common.{◌≡◌, ℕ, ◌<◌, List, [], ◌∷◌, ◌++◌, length, get_or, Some, Ok, refl, ap, ◌∙◌, arith, rules}
 use Rattle.std.proofs.lemmas.Bool.Decides.{nat_tests}
 use Rattle.std.proofs.lemmas.Grind.{common_steps}
-use Rattle.types.specs.declared.money.Price.{Price}
 use Rattle.types.specs.declared.quotes.Quote.{Quote}
 use Rattle.types.specs.Reports.{price_or_zero, price_unless_zero}
 use Rattle.wire.specs.declared.frames.CallKind.{CallKind}
-use Rattle.wire.specs.declared.frames.CallKind.TheVariants as kind
 use Rattle.wire.specs.declared.frames.CallFrame.{CallFrame}
 use Rattle.wire.specs.declared.frames.CallFrame.TheVariants as frame
-use Rattle.wire.specs.Layouts.{fields, Fit, Bytes, be32}
-use Rattle.wire.specs.Reading.{announced, framed, Form}
-use Rattle.wire.specs.Frames.{kind_code, kind_of, layout, kind_in, numbers, sides, quote_from, call_from, call_at, call_form, call_bytes, read_call}
+use Rattle.wire.specs.Layouts.{fields, Fit, Bytes}
+use Rattle.wire.specs.Reading.{announced}
+use Rattle.wire.specs.Frames.{kind_code, kind_of, layout, kind_in, numbers, sides, quote_from, call_from, call_at, call_bytes, read_call}
 use Rattle.wire.specs.Trips.{Present, Sound}
 use Rattle.wire.proofs.Trips.{reads_again, reads_back}
 

@@ -1,12 +1,10 @@
 -- The frames of reports, both ways.
-use Rattle.std.proofs.Common.{◌≡◌, ℕ, ◌+◌, ◌<◌, ◌≤◌, List, ◌++◌, length, get_or, drop, Some, None, Ok, Option, sym, refl, ap, ◌∙◌, arith, rules}
-use Rattle.std.proofs.lemmas.Bool.Decides.{nat_tests}
+use Rattle.std.proofs.Common.{◌≡◌, ℕ, ◌<◌, List, ◌++◌, Some, Ok, refl, ap, arith, rules}
 use Rattle.types.specs.declared.reports.Report.{Report}
 use Rattle.types.specs.declared.reports.ReportKind.{ReportKind}
 use Rattle.types.specs.declared.reports.ReportKind.TheVariants as kind
-use Rattle.wire.specs.Layouts.{fields, Fit, Bytes}
-use Rattle.wire.specs.Reading.{announced, Form}
-use Rattle.wire.specs.Reports.{report_code, report_kind, report_layout, report_numbers, report_bytes, report_from, report_at, report_form, read_report}
+use Rattle.wire.specs.Layouts.{Fit, Bytes}
+use Rattle.wire.specs.Reports.{report_code, report_kind, report_layout, report_numbers, report_bytes, report_from, report_at, read_report}
 use Rattle.wire.proofs.Trips.{reads_again, reads_back}
 
 coded : (k : ReportKind) → (k ≡ kind.Blank → ⊥) → report_kind (report_code k) ≡ Some k

@@ -1,10 +1,10 @@
 -- Frames written and read, and read and written, for any form of frame.
-use Rattle.std.proofs.Common.{◌≡◌, ℕ, ◌+◌, ◌<◌, ◌≤◌, Bool, true, false, cond, eqb, List, [], ◌∷◌, ◌++◌, length, get_or, take, drop, Some, None, Ok, Err, Option, Result, sym, refl, ap, ◌∙◌, arith, rules, length-append, take-append-drop}
+use Rattle.std.proofs.Common.{◌≡◌, ℕ, ◌+◌, ◌<◌, ◌≤◌, Bool, cond, eqb, List, [], ◌∷◌, ◌++◌, length, get_or, take, drop, Some, None, Ok, Err, Option, Result, sym, refl, ap, ◌∙◌, arith, rules, length-append, take-append-drop}
 use Rattle.std.proofs.lemmas.List.{drop_at}
 use Rattle.std.proofs.lemmas.Bool.Decides.{nat_tests}
 use Rattle.faults.specs.declared.layers.FrameFault.{FrameFault}
 use Rattle.faults.specs.declared.layers.FrameFault.TheVariants as fault
-use Rattle.wire.specs.Layouts.{Width, one, two, four, be16, size, bytes, total, fields, laid, Fit, Bytes}
+use Rattle.wire.specs.Layouts.{Width, be16, size, bytes, total, fields, laid, Fit, Bytes}
 use Rattle.wire.specs.Reading.{header, announced, framed, head_of, Form, form_of, version_check, formed, after, found, read_at, read, next}
 use Rattle.wire.proofs.Laws.{laid_again, read_again}
 
