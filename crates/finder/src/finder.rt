@@ -3,7 +3,7 @@ ghost use Rattle.std.specs.Prelude.{◌≡◌, length, None};
 ghost use Rattle.cells.specs.Cells.{lookup, taken, Sound};
 ghost use Rattle.finder.specs.Changes.{Inserted, Removed};
 
-use crate::shift::set_free;
+use crate::shift::draw_up;
 use cells::{Cell, Key, clear, find, locate};
 
 /// No place is free for a new key.
@@ -53,7 +53,10 @@ impl<'a, K: Key, V: Copy> Finder<'a, K, V> {
         ensures lent { self.new.cells.ghost_name ≡ self.old.cells.ghost_name }
     {
         let cells = &mut *self.cells;
-        let place = locate(cells, &key).or_else(|free| free.ok_or(Full))?;
+        let place = match locate(cells, &key) {
+            Ok(place) | Err(Some(place)) => place,
+            Err(None) => return Err(Full),
+        };
         let old = cells[place].replace((key, value));
         Ok(old.map(|(_, value)| value))
     }
@@ -66,6 +69,8 @@ impl<'a, K: Key, V: Copy> Finder<'a, K, V> {
     {
         let cells = &mut *self.cells;
         let place = locate(cells, key).ok()?;
-        set_free(cells, place)
+        let old = cells[place].take();
+        draw_up(cells, place);
+        old.map(|(_, value)| value)
     }
 }

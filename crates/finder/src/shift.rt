@@ -1,7 +1,6 @@
 //! A place set free.
 ghost use Rattle.std.specs.Prelude.{◌≡◌, ◌<◌, length, None, nat_lt};
 ghost use Rattle.cells.specs.Cells.{at, gap, home, lookup, taken, Sound, SoundBut};
-ghost use Rattle.cells.specs.Searching.{held};
 
 use cells::{Cell, Key, next_place};
 
@@ -23,7 +22,7 @@ fn leads_over<K: Key>(key: &K, n: usize, hole: usize, j: usize) -> bool
 }
 
 /// Draws the keys behind a hole nearer to their homes, until no search for a key leads over the hole.
-fn draw_up<K: Key, V: Copy>(cells: &mut [Cell<K, V>], place: usize)
+pub(crate) fn draw_up<K: Key, V: Copy>(cells: &mut [Cell<K, V>], place: usize)
     requires within { place < length cells.old }
     requires free { at cells.old place ≡ None }
     requires sound { SoundBut K.number place cells.old }
@@ -47,17 +46,4 @@ fn draw_up<K: Key, V: Copy>(cells: &mut [Cell<K, V>], place: usize)
         }
         j = next_place(j, n);
     }
-}
-
-/// Sets a place free, and answers the value there: no other key is lost.
-pub(crate) fn set_free<K: Key, V: Copy>(cells: &mut [Cell<K, V>], place: usize) -> Option<V>
-    requires within { place < length cells.old }
-    requires sound { Sound K.number cells.old }
-    ensures value { result ≡ held (at cells.old place) }
-    ensures sound { Sound K.number cells.new }
-    ensures places { length cells.new ≡ length cells.old }
-{
-    let old = cells[place].take();
-    draw_up(cells, place);
-    old.map(|(_, value)| value)
 }
