@@ -1,2 +1,2 @@
-mod Writes
+mod Distances
 mod Shifts

@@ -1,12 +1,8 @@
 -- What the calls of a finder answer and leave.
 use Rattle.std.specs.Prelude.{◌≡◌, ℕ, ◌+◌, ◌<◌, Bool, cond, List, length, Some, None, Ok, Err, Option, Result, nat_lt}
 use Rattle.std.specs.Map.{update}
-use Rattle.cells.specs.declared.cell.Cell.{Cell}
-use Rattle.cells.specs.declared.cell.Cell.TheVariants.{Free, Used}
-use Rattle.cells.specs.Cells.{lookup, taken, gap, home}
+use Rattle.cells.specs.Cells.{Cell, lookup, taken}
 use Rattle.finder.specs.declared.finder.Full.{Full}
-use Rattle.finder.specs.declared.shift.Step.{Step}
-use Rattle.finder.specs.declared.shift.Step.TheVariants.{End, Stay, Move}
 
 -- 1 where a key found something
 abbrev pub found : {V : Type 0} → Option V → ℕ
@@ -26,8 +22,3 @@ module _ {K V : Type 0} where
   Removed equal cells k old after =
       (old ≡ lookup equal cells k) × ((q : K) → lookup equal after q ≡ update equal (lookup equal cells) k None q)
       × (taken after + found old ≡ taken cells)
-
-  -- What a place means for a hole before it: the row of keys ends there; or its key moves into the hole, where its way leads over that; or it stays.
-  abbrev pub step : (K → ℕ) → ℕ → ℕ → ℕ → Cell K V → Step
-  step number n hole j Free = End
-  step number n hole j (Used k v) = cond (nat_lt (gap n (home number n k) hole) (gap n (home number n k) j)) Move Stay
