@@ -90,6 +90,7 @@ pub trait Preference {
         ensures { result ≡ likes taker s };
 }
 
+/// Price and shown lead, and among slices that are level by these the preferred ones.
 impl<P: Preference> Priority for P {
     ghost rule = { λ _. time_only then preferring P.likes };
 
