@@ -5,7 +5,7 @@ use Rattle.std.proofs.lemmas.Bool.Decides.{nat_tests}
 use Rattle.faults.specs.declared.layers.FrameFault.{FrameFault}
 use Rattle.faults.specs.declared.layers.FrameFault.TheVariants as fault
 use Rattle.wire.specs.Layouts.{Width, be16, size, bytes, total, fields, laid, Fit, Bytes}
-use Rattle.wire.specs.Reading.{header, announced, framed, head_of, Form, form_of, version_check, formed, after, found, read_at, read, next}
+use Rattle.wire.specs.Reading.{header, announced, framed, head_of, Form, form_of, version_check, formed, after, found, read_at, read, read_by}
 use Rattle.wire.proofs.Laws.{laid_again, read_again}
 
 head_is : (b : List ℕ) (n : ℕ) → be16 b 0 ≡ n → 4 ≤ length b → n + 2 ≤ length b → head_of b ≡ Ok (Some n)
@@ -120,7 +120,7 @@ kind_was {A = A} length says b (Some k) n v e =
 -- Frames of any kinds: what is written in front of more is read again, and leaves the more.
 pub reads_again : {K A : Type 0} (kind : ℕ → Option K) (code : K → ℕ) (layout : K → List Width) (says : List ℕ → K → A) (v : A) (k : K) (vs more : List ℕ)
     → kind (code k) ≡ Some k → code k < 256 → announced (layout k) < 65536 → Fit (layout k) vs → ((b : List ℕ) → fields (layout k) b 4 ≡ vs → says b k ≡ v)
-    → next kind (λ i. announced (layout i)) says (framed (code k) (layout k) vs ++ more) ≡ record { answer = Ok (Some v); rest = more }
+    → read_by kind (λ i. announced (layout i)) says (framed (code k) (layout k) vs ++ more) ≡ record { answer = Ok (Some v); rest = more }
 reads_again {K} {A} kind code layout says v k vs more o c a fit is =
     let b : List ℕ = framed (code k) (layout k) vs ++ more in
     let st = stands (code k) (layout k) vs more c a fit in
@@ -132,8 +132,8 @@ reads_again {K} {A} kind code layout says v k vs more o c a fit is =
 -- What is read was written as what it says, in front of what is left.
 pub reads_back : {K A : Type 0} (kind : ℕ → Option K) (code : K → ℕ) (layout : K → List Width) (says : List ℕ → K → A) (kind_in : A → K) (numbers : A → List ℕ)
     → ((n : ℕ) (k : K) → kind n ≡ Some k → n ≡ code k) → ((b : List ℕ) (k : K) → kind_in (says b k) ≡ k) → ((b : List ℕ) (k : K) → fields (layout k) b 4 ≡ numbers (says b k))
-    → (b : List ℕ) (v : A) → Bytes b → (next kind (λ i. announced (layout i)) says b).answer ≡ Ok (Some v)
-    → b ≡ framed (code (kind_in v)) (layout (kind_in v)) (numbers v) ++ (next kind (λ i. announced (layout i)) says b).rest
+    → (b : List ℕ) (v : A) → Bytes b → (read_by kind (λ i. announced (layout i)) says b).answer ≡ Ok (Some v)
+    → b ≡ framed (code (kind_in v)) (layout (kind_in v)) (numbers v) ++ (read_by kind (λ i. announced (layout i)) says b).rest
 reads_back kind code layout says kind_in numbers told kind_at numbers_at b v a e =
     let (n, w) = was_read (form_of (λ i. announced (layout i)) says b (kind (get_or b 3 0))) v b e in
     let (k, (o, (l, is))) = kind_was (λ i. announced (layout i)) says b (kind (get_or b 3 0)) n v w.form_is in
