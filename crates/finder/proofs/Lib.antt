@@ -1,2 +1,3 @@
 mod Distances
 mod Shifts
+mod Writes

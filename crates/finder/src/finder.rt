@@ -4,7 +4,7 @@ ghost use Rattle.cells.specs.Cells.{lookup, taken, Sound};
 ghost use Rattle.finder.specs.Changes.{Inserted, Removed};
 
 use crate::shift::draw_up;
-use cells::{Cell, Key, clear, find, locate};
+use cells::{Cell, Key, clear, find, locate, value_at};
 
 /// No place is free for a new key.
 #[derive(Clone, Copy, Debug, PartialEq, Eq)]
@@ -57,8 +57,9 @@ impl<'a, K: Key, V: Copy> Finder<'a, K, V> {
             Ok(place) | Err(Some(place)) => place,
             Err(None) => return Err(Full),
         };
-        let old = cells[place].replace((key, value));
-        Ok(old.map(|(_, value)| value))
+        let old = value_at(cells, place);
+        cells[place] = Some((key, value));
+        Ok(old)
     }
 
     /// Has the key find nothing, and answers what it found before.
@@ -69,8 +70,9 @@ impl<'a, K: Key, V: Copy> Finder<'a, K, V> {
     {
         let cells = &mut *self.cells;
         let place = locate(cells, key).ok()?;
-        let old = cells[place].take();
+        let old = value_at(cells, place);
+        cells[place] = None;
         draw_up(cells, place);
-        old.map(|(_, value)| value)
+        old
     }
 }

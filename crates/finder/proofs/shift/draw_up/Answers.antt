@@ -1,4 +1,4 @@
-use Rattle.std.proofs.Common.{◌≡◌, None, Some, get_or, sym, ◌∙◌, arith}
+use Rattle.std.proofs.Common.{◌≡◌, None, Some, arith}
 use Rattle.std.proofs.lemmas.List.{get_or_read}
 use Rattle.cells.specs.Cells.{at}
 use Rattle.finder.proofs.Shifts.{round_sound, end_sound, shift_stay, shift_move, left_stay, left_move}
