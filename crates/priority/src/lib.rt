@@ -127,8 +127,6 @@ impl Preference for Lynx {
 }
 
 /// The three rules keep the five laws.
-pub fn rules_are_lawful() -> u8
+pub fn rules_are_lawful()
     ensures { Lawful omega_rule × Lawful lynx_rule × Lawful time_only }
-{
-    0
-}
+{}
