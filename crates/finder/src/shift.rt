@@ -22,7 +22,7 @@ fn leads_over<K: Key>(key: &K, n: usize, hole: usize, p: usize) -> bool
     way(n, home, hole) < way(n, home, p)
 }
 
-/// The first place in the row of keys behind the hole whose key's way leads over the hole.
+/// The place of the next key to draw up: one in the row behind the hole whose way leads over it.
 fn follower<K: Key, V: Copy>(cells: &[Cell<K, V>], hole: usize) -> Option<usize>
     requires { hole < length cells.now }
     ensures { Follower K.number hole cells.now result }
