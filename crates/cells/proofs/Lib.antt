@@ -1,5 +1,5 @@
 pub mod Rings
-mod Turns
+pub mod Turns
 pub mod Lookups
 mod Walks
 mod Free

@@ -1,3 +1,4 @@
 mod Distances
+mod Rows
 mod Shifts
 mod Writes

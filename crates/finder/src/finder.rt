@@ -22,7 +22,7 @@ impl<'a, K: Key, V: Copy> Finder<'a, K, V> {
     pub fn new(cells: &'a mut [Cell<K, V>]) -> Finder<'a, K, V>
         ensures none { (q : K) → lookup K.eq result.cells.now q ≡ None }
         ensures taken { taken result.cells.now ≡ 0 }
-        ensures places { length result.cells.now ≡ length cells.entry.now }
+        ensures places { length result.cells.now ≡ length cells.old }
         ensures lent { result.cells.ghost_name ≡ cells.entry.ghost_name }
     {
         clear(cells);

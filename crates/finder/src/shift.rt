@@ -1,6 +1,7 @@
 //! A place set free.
-ghost use Rattle.std.specs.Prelude.{◌≡◌, ◌<◌, length, None, nat_lt};
-ghost use Rattle.cells.specs.Cells.{at, gap, home, lookup, taken, Sound, SoundBut};
+ghost use Rattle.std.specs.Prelude.{◌≡◌, ◌<◌, length, None, Decides};
+ghost use Rattle.cells.specs.Cells.{at, gap, lookup, taken, Sound, SoundBut};
+ghost use Rattle.finder.specs.Changes.{LeadsOver, Follower};
 
 use cells::{Cell, Key, next_place};
 
@@ -12,13 +13,30 @@ fn way(n: usize, a: usize, b: usize) -> usize
     if a <= b { b - a } else { n - a + b }
 }
 
-/// Whether the way of a key at j leads over the hole.
-fn leads_over<K: Key>(key: &K, n: usize, hole: usize, j: usize) -> bool
-    requires { (hole < n) × (j < n) }
-    ensures { result ≡ nat_lt (gap n (home K.number n key.now) hole) (gap n (home K.number n key.now) j) }
+/// Whether the way of a key at p leads over the hole.
+fn leads_over<K: Key>(key: &K, n: usize, hole: usize, p: usize) -> bool
+    requires { (hole < n) × (p < n) }
+    ensures { Decides result (LeadsOver K.number n hole p key.now) }
 {
     let home = key.spread() % n;
-    way(n, home, hole) < way(n, home, j)
+    way(n, home, hole) < way(n, home, p)
+}
+
+/// The place of the next key to draw up: one in the row behind the hole whose way leads over it.
+fn follower<K: Key, V: Copy>(cells: &[Cell<K, V>], hole: usize) -> Option<usize>
+    requires { hole < length cells.now }
+    ensures { Follower K.number hole cells.now result }
+{
+    let n = cells.len();
+    let next = next_place(hole, n);
+    for p in (next..n).chain(0..next) {
+        match &cells[p] {
+            None => return None,
+            Some((key, _)) if leads_over(key, n, hole, p) => return Some(p),
+            Some(_) => {}
+        }
+    }
+    None
 }
 
 /// Draws the keys behind a hole nearer to their homes, until no search for a key leads over the hole.
@@ -31,19 +49,9 @@ pub(crate) fn draw_up<K: Key, V: Copy>(cells: &mut [Cell<K, V>], place: usize)
     ensures taken { taken cells.new ≡ taken cells.old }
     ensures places { length cells.new ≡ length cells.old }
 {
-    let n = cells.len();
     let mut hole = place;
-    let mut j = next_place(place, n);
-    // The walk goes round the end and may come past a place again, since the hole moves ahead of it.
-    while j != hole {
-        match &cells[j] {
-            None => return,
-            Some((key, _)) if leads_over(key, n, hole, j) => {
-                cells.swap(hole, j);
-                hole = j;
-            }
-            Some(_) => {}
-        }
-        j = next_place(j, n);
+    while let Some(p) = follower(cells, hole) {
+        cells.swap(hole, p);
+        hole = p;
     }
 }
