@@ -10,11 +10,7 @@ use words::Dollars;
 
 /// Number, layer and place of a refusal, as one number each.
 fn told(refusal: Refusal) -> (u8, u8, u32) {
-    (
-        refusal.reason.into(),
-        refusal.layer.into(),
-        refusal.place,
-    )
+    (refusal.reason.into(), refusal.layer.into(), refusal.place)
 }
 
 fn first_refusal(bytes: &[u8]) -> Option<(u8, u8, u32)> {
