@@ -47,13 +47,13 @@ impl<R: Priority> ActiveOrder<'_, R> {
     }
 
     /// The slice of a record, as the order sees it.
-    fn candidate(&self, record: &OrderRecord, place: usize, hidden: bool) -> Candidate
-        ensures { result ≡ candidate self.now.view.now record.now place hidden }
+    fn candidate(&self, order: &OrderRecord, place: usize, hidden: bool) -> Candidate
+        ensures { result ≡ candidate self.now.view.now order.now place hidden }
     {
-        let resting = &record.resting;
+        let resting = &order.resting;
         Candidate {
             place,
-            time: record.time,
+            time: order.time,
             facts: SliceFacts {
                 price: price(self.view, resting),
                 hidden,
@@ -87,43 +87,34 @@ impl<R: Priority> ActiveOrder<'_, R> {
     /// Considers one slice of a record, unless it is empty.
     fn consider(
         &self,
-        record: &OrderRecord,
+        order: &OrderRecord,
         place: usize,
         hidden: bool,
         best: Option<Candidate>,
     ) -> Option<Candidate>
-        ensures { result ≡ considered (R.Priority.rule self.now.rule.now) self.now.view.now (taker_of self.now.order.now) record.now place hidden best }
+        ensures { result ≡ considered (R.Priority.rule self.now.rule.now) self.now.view.now (taker_of self.now.order.now) order.now place hidden best }
     {
-        if record.resting.slice(hidden).shares > 0 {
-            self.better(best, self.candidate(record, place, hidden))
+        if order.resting.slice(hidden).shares > 0 {
+            self.better(best, self.candidate(order, place, hidden))
         } else {
             best
         }
     }
 
     /// Considers the slices of a record, if the order may take it.
-    fn visit(
-        &self,
-        record: &OrderRecord,
-        place: usize,
-        best: Option<Candidate>,
-    ) -> Option<Candidate>
-        ensures { result ≡ visited (R.Priority.rule self.now.rule.now) self.now.view.now self.now.order.now record.now place best }
+    fn visit(&self, order: &OrderRecord, place: usize, best: Option<Candidate>) -> Option<Candidate>
+        ensures { result ≡ visited (R.Priority.rule self.now.rule.now) self.now.view.now self.now.order.now order.now place best }
     {
-        if may_take(self.view, &self.order.entry, &record.resting.order.entry) {
-            let shown = self.consider(record, place, false, best);
-            self.consider(record, place, true, shown)
+        if may_take(self.view, &self.order.entry, &order.resting.order.entry) {
+            let shown = self.consider(order, place, false, best);
+            self.consider(order, place, true, shown)
         } else {
             best
         }
     }
 
     /// The slice that the order meets next. No order rests from `high` on.
-    pub fn foremost_slice(
-        &self,
-        places: &[Option<OrderRecord>],
-        high: usize,
-    ) -> Option<Candidate>
+    pub fn foremost_slice(&self, places: &[Option<OrderRecord>], high: usize) -> Option<Candidate>
         requires within { high ≤ length places.now }
         requires above { NoneFrom high places.now }
         requires distinct { Distinct places.now }
@@ -132,8 +123,8 @@ impl<R: Priority> ActiveOrder<'_, R> {
     {
         let mut best = None;
         for (i, place) in places[..high].iter().enumerate() {
-            if let Some(record) = place {
-                best = self.visit(record, i, best);
+            if let Some(order) = place {
+                best = self.visit(order, i, best);
             }
         }
         best
