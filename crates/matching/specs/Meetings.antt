@@ -1,13 +1,17 @@
 -- A meeting on the order table.
-use Rattle.std.specs.Prelude.{◌≡◌, ◌+◌, ◌-◌, Bool, not, ◌&&◌, reverse, ◌==◌}
+use Rattle.std.specs.Prelude.{◌≡◌, ℕ, ◌+◌, ◌-◌, Bool, not, ◌&&◌, reverse, ◌==◌}
 use Rattle.types.specs.declared.orders.Order.{Order}
 use Rattle.types.specs.declared.orders.RestingOrder.{RestingOrder}
+use Rattle.prices.specs.Prices.{View}
 use Rattle.runs.specs.Slices.{Slice}
-use Rattle.runs.specs.Meetings.{Effect, shares}
+use Rattle.runs.specs.Meetings.{Effect, shares, meeting}
 use Rattle.runs.specs.Runs.{holding}
 use Rattle.sheet.specs.declared.EventSheet.{EventSheet}
 use Rattle.sheet.specs.Sheets.{Adds}
 use Rattle.table.specs.declared.records.OrderRecord.{OrderRecord}
+use Rattle.table.specs.Sequence.{Orders}
+use Rattle.scan.specs.declared.Candidate.{Candidate}
+use Rattle.scan.specs.Leading.{slice_on}
 use Rattle.matching.specs.declared.meetings.Meeting.{Meeting}
 
 -- A slice of the order, wherever that stands.
@@ -27,6 +31,10 @@ pub record ComesTo (f : Effect) (m m' : Meeting) (sheet sheet' : EventSheet) : T
   pub left : m'.left ≡ shares f.left
   pub resting : m'.resting ≡ holding f.shown f.reserve m.resting
   pub adds : Adds sheet sheet' (reverse f.reports)
+
+-- What comes of the meeting of a, with so much left, and a slice of a table.
+abbrev pub comes_of : View → Order → ℕ → Orders → Candidate → Effect
+comes_of view a left os b = meeting view a left (slice_on os b.place b.facts.hidden)
 
 -- The record once its order has met: what was drawn from the reserve is counted.
 abbrev pub met : Effect → OrderRecord → OrderRecord

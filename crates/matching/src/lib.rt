@@ -4,13 +4,12 @@
 mod meetings;
 
 ghost use Rattle.std.specs.Prelude.{◌≡◌, ℕ, ◌+◌, ◌*◌, ◌^◌, ◌<◌, ◌≤◌, true, [], reverse, Some, slice_set};
-ghost use Rattle.runs.specs.Meetings.{shares, meeting};
+ghost use Rattle.runs.specs.Meetings.{shares};
 ghost use Rattle.runs.specs.Runs.{in_play, run as run_of};
 ghost use Rattle.table.specs.Sequence.{rests_at, record_at, resting_of};
 ghost use Rattle.table.specs.Writing.{Written};
-ghost use Rattle.scan.specs.Leading.{slice_on};
 ghost use Rattle.sheet.specs.Sheets.{Adds};
-ghost use Rattle.matching.specs.Meetings.{met};
+ghost use Rattle.matching.specs.Meetings.{met, comes_of};
 ghost use Rattle.matching.specs.Running.{on_table, SameOrders, MayRest, AllMayRest};
 
 use meetings::Meeting;
@@ -31,9 +30,9 @@ fn meet<R: Priority>(
     requires rests { rests_at table.old.places.now slice.place ≡ true }
     requires fits { MayRest (record_at table.old.places.now slice.place) }
     requires room { sheet.old.count + 2 < 2 ^ 64 }
-    ensures left { result ≡ shares (meeting active.now.view.now active.now.order.now left.shares (slice_on table.old.places.now slice.place slice.facts.hidden)).left }
-    ensures table { table.new.places.now ≡ slice_set table.old.places.now slice.place (Some (met (meeting active.now.view.now active.now.order.now left.shares (slice_on table.old.places.now slice.place slice.facts.hidden)) (record_at table.old.places.now slice.place))) }
-    ensures adds { Adds sheet.old sheet.new (reverse (meeting active.now.view.now active.now.order.now left.shares (slice_on table.old.places.now slice.place slice.facts.hidden)).reports) }
+    ensures left { result ≡ shares (comes_of active.now.view.now active.now.order.now left.shares table.old.places.now slice).left }
+    ensures table { table.new.places.now ≡ slice_set table.old.places.now slice.place (Some (met (comes_of active.now.view.now active.now.order.now left.shares table.old.places.now slice) (record_at table.old.places.now slice.place))) }
+    ensures adds { Adds sheet.old sheet.new (reverse (comes_of active.now.view.now active.now.order.now left.shares table.old.places.now slice).reports) }
     ensures ends { table.new.ends ≡ table.old.ends }
     ensures written { Written table.old table.new }
 {
@@ -73,7 +72,7 @@ pub fn run<R: Priority>(
 {
     let mut left = volume;
     'run: while left.shares > 0 {
-        match active.foremost_slice(table.places, table.ends.high) {
+        match active.next_slice(table) {
             Some(slice) => left = meet(active, left, slice, table, sheet),
             None => break 'run,
         }

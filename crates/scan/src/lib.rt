@@ -9,7 +9,7 @@ ghost use Rattle.scan.specs.Leading.{candidate, goes_before, better_of, consider
 
 use prices::{View, executable_price, may_take};
 use priority::{Priority, SliceFacts, Taker};
-use table::OrderRecord;
+use table::{OrderRecord, OrderTable};
 use types::{Order, OrderKind, Price, RestingOrder};
 
 /// A slice of the order at a place of the table, with what it is compared by.
@@ -128,5 +128,12 @@ impl<R: Priority> ActiveOrder<'_, R> {
             }
         }
         best
+    }
+    /// The slice of a table that the order meets next.
+    pub fn next_slice(&self, table: &OrderTable<'_>) -> Option<Candidate>
+        ensures leads { Leading (R.Priority.rule self.now.rule.now) self.now.view.now self.now.order.now table.now.places.now (below table.now.ends.high) result }
+        ensures foremost { slice_of table.now.places.now result ≡ foremost (ahead (R.Priority.rule self.now.rule.now) self.now.view.now self.now.order.now) (slices self.now.view.now self.now.order.now (resting_of table.now.places.now)) }
+    {
+        self.foremost_slice(table.places, table.ends.high)
     }
 }
