@@ -2,7 +2,6 @@
 ghost use Rattle.std.specs.Prelude.{◌≡◌, ◌+◌, ◌^◌, ◌<◌};
 ghost use Rattle.runs.specs.Slices.{volume_of};
 ghost use Rattle.runs.specs.Meetings.{trade_of, trading, smaller_out, active_out, resting_out, meeting};
-ghost use Rattle.matching.specs.Meetings.{one_key};
 
 use prices::View;
 use scan::price;
@@ -18,19 +17,21 @@ pub struct Meeting<'a> {
     pub left: Volume,
     pub resting: RestingOrder,
     pub hidden: bool,
-}
-
-/// Whether the orders are of one broker and have one key other than 0.
-fn have_one_key(active: &Order, resting: &Order) -> bool
-    ensures { result ≡ one_key active.now resting.now }
-{
-    active.broker == resting.broker
-        && active.entry.key == resting.entry.key
-        && active.entry.key != StpKey { number: 0 }
+    pub ghost fits: { volume_of resting < 2 ^ 32 },
 }
 
 impl Meeting<'_> {
-    ghost use Rattle.matching.specs.Meetings.{slice_met, ComesTo};
+    ghost use Rattle.matching.specs.Meetings.{slice_met, one_key, ComesTo};
+
+    /// Whether the orders are of one broker and have one key other than 0.
+    fn has_one_key(&self) -> bool
+        ensures { result ≡ one_key self.now.active.now self.now.resting.order }
+    {
+        let (active, resting) = (self.active, &self.resting.order);
+        active.broker == resting.broker
+            && active.entry.key == resting.entry.key
+            && active.entry.key != StpKey { number: 0 }
+    }
 
     /// The slip of the active order and that of the resting one make one trade.
     fn traded(&self, own: Slip, other: Slip, price: Price, suppressed: bool) -> Report
@@ -76,7 +77,6 @@ impl Meeting<'_> {
     #[tactic(auto, unfolding(runs::specs::Meetings::smaller_out))]
     fn decrement_active(&mut self, sheet: &mut EventSheet<'_>)
         requires less { volume_of self.old.resting < self.old.left.shares }
-        requires fits { volume_of self.old.resting < 2 ^ 32 }
         requires room { sheet.old.count + 2 < 2 ^ 64 }
         ensures { ComesTo (smaller_out self.old.active.now self.old.left.shares self.old.resting) self.old self.new sheet.old sheet.new }
     {
@@ -91,7 +91,6 @@ impl Meeting<'_> {
     #[tactic(auto, unfolding(runs::specs::Meetings::smaller_out))]
     fn cancel_both(&mut self, sheet: &mut EventSheet<'_>)
         requires level { volume_of self.old.resting ≡ self.old.left.shares }
-        requires fits { volume_of self.old.resting < 2 ^ 32 }
         requires room { sheet.old.count + 2 < 2 ^ 64 }
         ensures { ComesTo (smaller_out self.old.active.now self.old.left.shares self.old.resting) self.old self.new sheet.old sheet.new }
     {
@@ -112,7 +111,6 @@ impl Meeting<'_> {
 
     /// The resting order is cancelled.
     fn cancel_resting(&mut self, sheet: &mut EventSheet<'_>)
-        requires fits { volume_of self.old.resting < 2 ^ 32 }
         requires room { sheet.old.count + 2 < 2 ^ 64 }
         ensures { ComesTo (resting_out self.old.left.shares self.old.resting) self.old self.new sheet.old sheet.new }
     {
@@ -123,11 +121,10 @@ impl Meeting<'_> {
     /// Where the orders have one key the active one's instruction decides, otherwise they trade.
     #[tactic(auto, unfolding(runs::specs::Meetings::meeting))]
     pub fn conclude(&mut self, sheet: &mut EventSheet<'_>)
-        requires fits { volume_of self.old.resting < 2 ^ 32 }
         requires room { sheet.old.count + 2 < 2 ^ 64 }
         ensures { ComesTo (meeting self.old.view.now self.old.active.now self.old.left.shares (slice_met self.old)) self.old self.new sheet.old sheet.new }
     {
-        let own = have_one_key(self.active, &self.resting.order);
+        let own = self.has_one_key();
         let volume = self.resting.volume();
         match self.active.entry.instruction {
             StpInstruction::TradeAndSuppress if own => self.trade(true, sheet),
