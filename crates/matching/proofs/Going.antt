@@ -3,6 +3,7 @@ use Rattle.std.proofs.Common.{◌≡◌, ℕ, zero, suc, ◌+◌, ◌-◌, ◌*�
 use mathlib.Core.List.{reverse-append}
 use lib.ListN.{length-reverse}
 use Rattle.std.proofs.lemmas.Bool.{eqb-true, eqb-false}
+use Rattle.types.specs.declared.money.Volume.{Volume}
 use Rattle.types.specs.declared.orders.Order.{Order}
 use Rattle.types.specs.declared.orders.RestingOrder.{RestingOrder}
 use Rattle.types.specs.declared.orders.StpInstruction.{StpInstruction}
@@ -13,7 +14,7 @@ use Rattle.prices.specs.Prices.{View}
 use Rattle.priority.specs.Priority.{Rule}
 use Rattle.runs.specs.Lists.{at_place, foremost, sum_of}
 use Rattle.runs.specs.Slices.{Slice, volume_of, amount, slices, ahead}
-use Rattle.runs.specs.Meetings.{Effect, trading, smaller_out, prevents, by_instruction, meeting}
+use Rattle.runs.specs.Meetings.{Effect, shares, trading, smaller_out, prevents, by_instruction, meeting}
 use Rattle.runs.specs.Runs.{Progress, holding, meet, next_slice, in_play, run}
 use Rattle.runs.proofs.Runs.{chosen, falls, run_stop, run_next}
 use Rattle.table.specs.declared.records.OrderRecord.{OrderRecord}
@@ -24,7 +25,8 @@ use Rattle.table.proofs.Kept.{rests_within, places}
 use Rattle.table.proofs.Resting.{changed, at_rank}
 use Rattle.table.proofs.Writing.{written_none, written_both}
 use Rattle.scan.specs.declared.Candidate.{Candidate}
-use Rattle.scan.specs.Leading.{slice_on, slice_of}
+use Rattle.scan.specs.Leading.{slice_on, Leads, slice_of}
+use Rattle.scan.proofs.Leading.{leads_rests}
 use Rattle.sheet.specs.declared.EventSheet.{EventSheet}
 use Rattle.sheet.specs.Sheets.{Adds}
 use Rattle.sheet.proofs.Sheets.{adds_none, adds_more, adds_same}
@@ -32,11 +34,11 @@ use Rattle.matching.specs.Meetings.{slice_from, met, comes_of}
 use Rattle.matching.specs.Running.{on_table, SameOrder, SameOrders, AllMayRest}
 
 -- What a meeting comes to goes by the slice, wherever its order stands.
-pub anywhere : (view : View) (a : Order) (left : ℕ) (s : Slice) → meeting view a left (slice_from s.resting s.hidden) ≡ meeting view a left s
+pub anywhere : (view : View) (a : Order) (left place : ℕ) (o : RestingOrder) (hidden : Bool) → meeting view a left (record { place = place; resting = o; hidden = hidden }) ≡ meeting view a left (slice_from o hidden)
 unfolding meeting trading
-anywhere view a left s = go (prevents a s.resting.order)
+anywhere view a left place o hidden = go (prevents a o.order)
   where
-    go : (i : Option StpInstruction) → by_instruction i view a left (slice_from s.resting s.hidden) ≡ by_instruction i view a left s
+    go : (i : Option StpInstruction) → by_instruction i view a left (record { place = place; resting = o; hidden = hidden }) ≡ by_instruction i view a left (slice_from o hidden)
     go None = refl
     go (Some Off) = refl
     go (Some TradeAndSuppress) = refl
@@ -160,8 +162,8 @@ pub going_start : (rule : Rule) (view : View) (a : Order) (v : ℕ) (t : OrderTa
 going_start rule view a v t s =
     record { log = []; goes = refl; adds = adds_none s; less = omega arith; same = same_none t.places.now; few = omega arith; ends = refl; written = written_none t }
 
--- With so much left the active order meets b, which is the foremost slice of the table t.
-module _ (rule : Rule) (view : View) (a : Order) (left : ℕ) (t : OrderTable) (b : Candidate) (some : 0 < left) (on : rests_at t.places.now b.place ≡ true)
+-- With so much left the active order meets b, which leads on the table t.
+module _ {rule : Rule} {view : View} {a : Order} {left : ℕ} (t : OrderTable) {b : Candidate} {asked : ℕ → Bool → Type 0} (some : 0 < left) (l : Leads rule view a t.places.now asked b)
     (leads : slice_of t.places.now (Some b) ≡ foremost (ahead rule view a) (slices view a (resting_of t.places.now))) where
   abbrev os : Orders
   os = t.places.now
@@ -174,6 +176,9 @@ module _ (rule : Rule) (view : View) (a : Order) (left : ℕ) (t : OrderTable) (
 
   abbrev after : Orders
   after = set os b.place (Some (met comes (record_at os b.place)))
+
+  on : rests_at os b.place ≡ true
+  on = leads_rests rule view a os asked b l
 
   is_next : (log : List Report) → next_slice rule view a (on_table left os log) ≡ Some this
   unfolding next_slice
@@ -189,51 +194,32 @@ module _ (rule : Rule) (view : View) (a : Order) (left : ℕ) (t : OrderTable) (
       ap (λ (z : List RestingOrder). record { left = comes.left; others = z; log = comes.reports ++ log })
       (sym (met_list os b.place comes t.sound.sequenced.distinct on))
 
-  goes_on : (log : List Report) → run rule view a (on_table comes.left after (comes.reports ++ log)) ≡ run rule view a (on_table left os log)
-  goes_on log = ap (run rule view a) (sym (meets log)) ∙ sym (run_next rule view a (on_table left os log) this (is_next log))
+  -- So much is left then, and the table is t'.
+  module _ (left' : Volume) (t' : OrderTable) (is : left' ≡ shares comes.left) (written : t'.places.now ≡ after) where
+    now : (log : List Report) → meet view a (on_table left os log) this ≡ on_table left'.shares t'.places.now (comes.reports ++ log)
+    now log = meets log ∙ (λ i. on_table (sym is i).shares (sym written i) (comes.reports ++ log))
 
-  -- It is met, so that t' and s' come of the table t and a sheet s.
-  module _ (t' : OrderTable) (written : t'.places.now ≡ after) where
     -- All volume in play falls.
-    pub shrinks : comes.left + sum_of volume_of (resting_of t'.places.now) < left + sum_of volume_of (resting_of os)
+    pub shrinks : left'.shares + sum_of volume_of (resting_of t'.places.now) < left + sum_of volume_of (resting_of os)
     shrinks =
         let (h, top) = chosen rule view a (on_table left os []) this (is_next []) in
-        subst (λ (z : Progress). z.left + sum_of volume_of z.others < left + sum_of volume_of (resting_of os))
-        (meets [] ∙ ap (λ (z : Orders). on_table comes.left z (comes.reports ++ [])) (sym written))
-        (falls rule view a (on_table left os []) h this top)
+        subst (λ (z : Progress). z.left + sum_of volume_of z.others < left + sum_of volume_of (resting_of os)) (now []) (falls rule view a (on_table left os []) h this top)
 
-    pub going_on : (v : ℕ) (t₀ : OrderTable) (s₀ s s' : EventSheet) → Going rule view a v t₀ s₀ left t s
-        → Adds s s' (reverse comes.reports) → t'.ends ≡ t.ends → Written t t' → Going rule view a v t₀ s₀ comes.left t' s'
-    going_on v t₀ s₀ s s' g adds ends noted =
+    pub going_on : {v : ℕ} {t₀ : OrderTable} {s₀ s s' : EventSheet} → Going rule view a v t₀ s₀ left t s
+        → Adds s s' (reverse comes.reports) → t'.ends ≡ t.ends → Written t t' → Going rule view a v t₀ s₀ left'.shares t' s'
+    going_on {t₀ = t₀} g adds ends noted =
         let mild = mild view a left this in
         let here : SameOrders os t'.places.now = subst (SameOrders os) (sym written) (same_one os b.place (met comes (record_at os b.place)) on (met_same left comes (record_at os b.place) mild)) in
         record {
           log = comes.reports ++ g.log;
-          goes = ap (λ (z : Orders). run rule view a (on_table comes.left z (comes.reports ++ g.log))) written ∙ goes_on g.log ∙ g.goes;
+          goes = ap (run rule view a) (sym (now g.log)) ∙ sym (run_next rule view a (on_table left os g.log) this (is_next g.log)) ∙ g.goes;
           adds = adds_same (sym (reverse-append comes.reports g.log)) (adds_more g.adds adds);
-          less = omega (arith, g.less, mild.left);
+          less = let fewer = ap (λ (z : Volume). z.shares) is in omega (arith, g.less, mild.left, fewer);
           same = same_both t₀.places.now os t'.places.now g.same here;
           few = let falls = shrinks in omega (arith, g.few, adds.counted, length-reverse comes.reports, mild.few, falls);
           ends = ends ∙ g.ends;
           written = written_both t₀ t t' g.written noted;
         }
-
--- The end of a run.
-pub ends_used : (rule : Rule) (view : View) (a : Order) (left : ℕ) (os : Orders) (log : List Report) → left ≤ 0 → run rule view a (on_table left os log) ≡ on_table left os log
-unfolding next_slice
-ends_used rule view a left os log h = run_stop rule view a (on_table left os log) (go (eqb left 0) refl)
-  where
-    go : (t : Bool) → eqb left 0 ≡ t → cond t None (foremost (ahead rule view a) (slices view a (resting_of os))) ≡ None
-    go true e = refl
-    go false e = absurd (eqb-false left 0 e (omega arith))
-
-pub ends_none : (rule : Rule) (view : View) (a : Order) (left : ℕ) (os : Orders) (log : List Report) → None ≡ foremost (ahead rule view a) (slices view a (resting_of os)) → run rule view a (on_table left os log) ≡ on_table left os log
-unfolding next_slice
-ends_none rule view a left os log e = run_stop rule view a (on_table left os log) (go (eqb left 0))
-  where
-    go : (t : Bool) → cond t None (foremost (ahead rule view a) (slices view a (resting_of os))) ≡ None
-    go true = refl
-    go false = sym e
 
 -- What a run that has come to its end leaves.
 pub record Ended (rule : Rule) (view : View) (a : Order) (v : ℕ) (t₀ : OrderTable) (s₀ : EventSheet) (n : ℕ) (t : OrderTable) (s : EventSheet) : Type 0 where
@@ -241,12 +227,30 @@ pub record Ended (rule : Rule) (view : View) (a : Order) (v : ℕ) (t₀ : Order
   pub list : resting_of t.places.now ≡ (run rule view a (on_table v t₀.places.now [])).others
   pub adds : Adds s₀ s (reverse (run rule view a (on_table v t₀.places.now [])).log)
 
-pub ended : (rule : Rule) (view : View) (a : Order) (v : ℕ) (t₀ : OrderTable) (s₀ : EventSheet) (n : ℕ) (t : OrderTable) (s : EventSheet)
-    (g : Going rule view a v t₀ s₀ n t s) → run rule view a (on_table n t.places.now g.log) ≡ on_table n t.places.now g.log → Ended rule view a v t₀ s₀ n t s
-ended rule view a v t₀ s₀ n t s g end =
-    let whole : on_table n t.places.now g.log ≡ run rule view a (on_table v t₀.places.now []) = sym end ∙ g.goes in
-    record {
-      left = ap (λ (z : Progress). z.left) whole;
-      list = ap (λ (z : Progress). z.others) whole;
-      adds = adds_same (ap (λ (z : Progress). reverse z.log) whole) g.adds;
-    }
+module _ {rule : Rule} {view : View} {a : Order} {v : ℕ} {t₀ : OrderTable} {s₀ : EventSheet} {n : ℕ} {t : OrderTable} {s : EventSheet} (g : Going rule view a v t₀ s₀ n t s) where
+  ended : next_slice rule view a (on_table n t.places.now g.log) ≡ None → Ended rule view a v t₀ s₀ n t s
+  ended none =
+      let whole : on_table n t.places.now g.log ≡ run rule view a (on_table v t₀.places.now []) = sym (run_stop rule view a (on_table n t.places.now g.log) none) ∙ g.goes in
+      record {
+        left = ap (λ (z : Progress). z.left) whole;
+        list = ap (λ (z : Progress). z.others) whole;
+        adds = adds_same (ap (λ (z : Progress). reverse z.log) whole) g.adds;
+      }
+
+  -- The active order is used up.
+  pub used_up : n ≤ 0 → Ended rule view a v t₀ s₀ n t s
+  unfolding next_slice
+  used_up h = ended (go (eqb n 0) refl)
+    where
+      go : (z : Bool) → eqb n 0 ≡ z → cond z None (foremost (ahead rule view a) (slices view a (resting_of t.places.now))) ≡ None
+      go true e = refl
+      go false e = absurd (eqb-false n 0 e (omega arith))
+
+  -- No slice is left.
+  pub none_left : None ≡ foremost (ahead rule view a) (slices view a (resting_of t.places.now)) → Ended rule view a v t₀ s₀ n t s
+  unfolding next_slice
+  none_left e = ended (go (eqb n 0))
+    where
+      go : (z : Bool) → cond z None (foremost (ahead rule view a) (slices view a (resting_of t.places.now))) ≡ None
+      go true = refl
+      go false = sym e

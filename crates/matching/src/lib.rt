@@ -20,6 +20,7 @@ use table::OrderTable;
 use types::Volume;
 
 /// The active order, with so much left, meets the slice, and this is left of it.
+#[tactic(auto, using(crate::proofs::Going::anywhere, crate::proofs::Going::mild))]
 fn meet<R: Priority>(
     active: &ActiveOrder<'_, R>,
     left: Volume,
@@ -52,6 +53,7 @@ fn meet<R: Priority>(
 }
 
 /// Runs the active order over the table, and answers what is left of it.
+#[tactic(auto, using(crate::proofs::Going::going_start))]
 pub fn run<R: Priority>(
     active: &ActiveOrder<'_, R>,
     volume: Volume,

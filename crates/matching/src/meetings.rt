@@ -7,7 +7,9 @@ use prices::View;
 use scan::price;
 use sheet::EventSheet;
 use slips::Slip;
-use types::{CancelReason, Order, Price, Report, RestingOrder, Side, StpInstruction, StpKey, Volume};
+use types::{
+    CancelReason, Order, Price, Report, RestingOrder, Side, StpInstruction, StpKey, Volume,
+};
 
 /// The active order, with what is left of it, and a slice of the resting order that it meets.
 #[derive(Drop)]
