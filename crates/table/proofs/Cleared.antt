@@ -1,37 +1,41 @@
--- A table with every place set free.
-use Rattle.std.proofs.Common.{◌≡◌, ℕ, zero, suc, ◌+◌, ◌<◌, ◌≤◌, false, List, [], ◌∷◌, map, length, refl, ap, arith}
-use lib.ListN.{length-map}
+-- A table with every place free.
+use Rattle.std.proofs.Common.{◌≡◌, ℕ, zero, suc, ◌+◌, ◌<◌, ◌≤◌, false, List, [], length, map, None, Option, replicate, refl, ap, arith}
 use Rattle.std.proofs.lemmas.Bool.{both_ways}
+use Rattle.std.proofs.lemmas.List.{length-replicate}
 use Rattle.table.specs.declared.records.OrderRecord.{OrderRecord}
-use Rattle.table.specs.Sequence.{record_at, freed, in_sequence, resting_of}
+use Rattle.table.specs.Sequence.{Orders, rests_at, in_sequence, resting_of}
 use Rattle.table.specs.Places.{Sound}
 
-none_live : (os : List OrderRecord) (k : ℕ) → (record_at (map freed os) k).live ≡ false
-none_live [] k = refl
-none_live (r ∷ os) zero = refl
-none_live (r ∷ os) (suc k) = none_live os k
+-- The places of an empty table.
+abbrev pub empty : ℕ → Orders
+empty n = replicate n None
 
-none_in_sequence : (os : List OrderRecord) → in_sequence (map freed os) ≡ []
+pub none_rests : (n k : ℕ) → rests_at (empty n) k ≡ false
+none_rests zero k = refl
+none_rests (suc n) zero = refl
+none_rests (suc n) (suc k) = none_rests n k
+
+none_in_sequence : (n : ℕ) → in_sequence (empty n) ≡ []
 unfolding in_sequence
-none_in_sequence [] = refl
-none_in_sequence (r ∷ os) = none_in_sequence os
+none_in_sequence zero = refl
+none_in_sequence (suc n) = none_in_sequence n
 
-pub cleared_list : (os : List OrderRecord) → resting_of (map freed os) ≡ []
+pub cleared_list : (n : ℕ) → resting_of (empty n) ≡ []
 unfolding resting_of
-cleared_list os = ap (map (λ (r : OrderRecord). r.resting)) (none_in_sequence os)
+cleared_list n = ap (map (λ (r : OrderRecord). r.resting)) (none_in_sequence n)
 
-pub cleared_sound : (os : List OrderRecord) → length os ≤ 65536 → Sound (map freed os) (record { low = 0; high = 0; next = 0 })
-cleared_sound os small =
+pub cleared_sound : (n : ℕ) → n ≤ 65536 → Sound (empty n) (record { low = 0; high = 0; next = 0 })
+cleared_sound n small =
     record {
-      small = omega (arith, length-map os freed);
+      small = simp length-replicate small;
       order = omega arith;
       inside = omega arith;
       below = λ k h. absurd (never k h);
-      above = λ k _. none_live os k;
+      above = λ k _. none_rests n k;
       tight = λ k h. absurd (nor k h);
       sequenced = record {
-        distinct = λ j k lj lk uj uk e. absurd (both_ways (record_at (map freed os) j).live (none_live os j) uj);
-        older = λ k lk uk. absurd (both_ways (record_at (map freed os) k).live (none_live os k) uk);
+        distinct = λ j k lj lk uj uk e. absurd (both_ways (rests_at (empty n) j) (none_rests n j) uj);
+        older = λ k lk uk. absurd (both_ways (rests_at (empty n) k) (none_rests n k) uk);
       };
     }
   where

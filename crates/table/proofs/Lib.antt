@@ -4,6 +4,7 @@ pub mod Kept
 pub mod Resting
 pub mod Patching
 pub mod Noting
+pub mod Writing
 pub mod Places
 pub mod Props
 pub mod Walks

@@ -1,9 +1,10 @@
 -- The ends of a table after a place is taken or set free.
-use Rattle.std.proofs.Common.{◌≡◌, ℕ, zero, suc, ◌+◌, ◌<◌, ◌≤◌, true, false, ltb, ◌⊎◌, List, [], ◌∷◌, length, set, is_some, Some, None, Option, sym, refl, ap, ◌∙◌, subst, inl, inr, ⊎_elim, arith, length-set}
-use Rattle.std.proofs.lemmas.Bool.{lt-ltb, le-ltb, cases_lt, both_ways, cond_both, cond-true, cond-false}
+use Rattle.std.proofs.Common.{◌≡◌, ℕ, zero, suc, ◌+◌, ◌-◌, ◌<◌, ◌≤◌, true, false, ltb, ◌⊎◌, List, [], ◌∷◌, length, take, drop, set, is_some, Some, None, Option, sym, refl, ap, ◌∙◌, subst, inl, inr, ⊎_elim, arith, get_or-drop, length-drop, length-set}
+use Rattle.std.proofs.lemmas.Bool.{lt-ltb, le-ltb, cases_lt, both_ways, cond_both}
+use Rattle.std.proofs.lemmas.List.{take_all}
 use Rattle.table.specs.declared.records.OrderRecord.{OrderRecord}
 use Rattle.table.specs.declared.ends.Ends.{Ends}
-use Rattle.table.specs.Sequence.{record_at, in_turn, in_sequence, resting_of, Sequenced}
+use Rattle.table.specs.Sequence.{Orders, place_at, rests_at, record_at, in_turn, in_sequence, resting_of, Sequenced}
 use Rattle.table.specs.Places.{Sound, First, Found}
 use Rattle.table.proofs.Kept.{places, sequenced_same, sequenced_gone, sequenced_new}
 use Rattle.table.proofs.Resting.{resting_length}
@@ -14,54 +15,81 @@ length_turn : (r : OrderRecord) (l : List OrderRecord) → length (in_turn r l) 
 length_turn r [] = refl
 length_turn r (x ∷ l) = cond_both (ltb r.time x.time) (r ∷ x ∷ l) (x ∷ in_turn r l) (λ m. length m ≡ suc (suc (length l))) (λ e. refl) (λ e. ap suc (length_turn r l))
 
-pub length_le : (os : List OrderRecord) → length (in_sequence os) ≤ length os
+pub length_le : (os : Orders) → length (in_sequence os) ≤ length os
 unfolding in_sequence
 length_le [] = omega arith
-length_le (o ∷ os) =
-    let rest = length_le os in
-    cond_both o.live (in_turn o (in_sequence os)) (in_sequence os) (λ m. length m ≤ suc (length os))
-    (λ e. rw (length_turn o (in_sequence os)) (omega arith)) (λ e. omega arith)
+length_le (None ∷ os) = let rest = length_le os in omega arith
+length_le (Some o ∷ os) = let rest = length_le os in rw (length_turn o (in_sequence os)) (omega arith)
 
-length_full : (os : List OrderRecord) → ((k : ℕ) → k < length os → (record_at os k).live ≡ true) → length os ≤ length (in_sequence os)
+length_full : (os : Orders) → ((k : ℕ) → k < length os → rests_at os k ≡ true) → length os ≤ length (in_sequence os)
 unfolding in_sequence
 length_full [] h = omega arith
-length_full (o ∷ os) h =
+length_full (None ∷ os) h = let here = h 0 (omega arith) in cc
+length_full (Some o ∷ os) h =
     let rest = length_full os (λ k lt. h (suc k) (omega arith)) in
-    let more = length_turn o (in_sequence os) in
-    let all : suc (length os) ≤ length (in_turn o (in_sequence os)) = omega arith in
-    subst (λ (m : List OrderRecord). suc (length os) ≤ length m) (sym (cond-true _ _ _ (h 0 (omega arith)))) all
+    rw (length_turn o (in_sequence os)) (omega arith)
 
-length_free : (os : List OrderRecord) (i : ℕ) → i < length os → (record_at os i).live ≡ false → length (in_sequence os) < length os
+length_free : (os : Orders) (i : ℕ) → i < length os → rests_at os i ≡ false → length (in_sequence os) < length os
 unfolding in_sequence
 length_free [] i lt free = absurd (omega arith)
-length_free (o ∷ os) zero lt free =
-    let rest = length_le os in
-    let less : length (in_sequence os) < suc (length os) = omega arith in
-    subst (λ (m : List OrderRecord). length m < suc (length os)) (sym (cond-false _ _ _ free)) less
-length_free (o ∷ os) (suc i) lt free =
+length_free (None ∷ os) zero lt free = let rest = length_le os in omega arith
+length_free (Some o ∷ os) zero lt free = cc
+length_free (None ∷ os) (suc i) lt free = let rest = length_le os in omega arith
+length_free (Some o ∷ os) (suc i) lt free =
     let rest = length_free os i (omega arith) free in
-    cond_both o.live (in_turn o (in_sequence os)) (in_sequence os) (λ m. length m < suc (length os))
-    (λ e. rw (length_turn o (in_sequence os)) (omega arith)) (λ e. omega arith)
+    rw (length_turn o (in_sequence os)) (omega arith)
 
 -- A free place is found exactly where fewer orders rest than there are places.
-pub room : (os : List OrderRecord) (r : Option ℕ) → Found os r → is_some r ≡ ltb (length (resting_of os)) (length os)
+pub room : (os : Orders) (r : Option ℕ) → Found os r → is_some r ≡ ltb (length (resting_of os)) (length os)
 room os (Some i) f = sym (lt-ltb _ _ (rw (resting_length os) (length_free os i f.within f.free)))
 room os None f = sym (le-ltb _ _ (rw (resting_length os) (length_full os f)))
 
-module _ (os : List OrderRecord) (e : Ends) (s : Sound os e) (i : ℕ) where
-  -- An order entered at the first free place.
-  pub sound_entered : (o : OrderRecord) (r : ℕ) → First os i → o.live ≡ true → o.time ≡ e.next
-      → e.high ≤ r → i + 1 ≤ r → ((n : ℕ) → e.high ≤ n → i + 1 ≤ n → r ≤ n)
-      → Sound (set os i o) (record { low = i + 1; high = r; next = e.next + 1 })
-  sound_entered o r f on last le lt least =
-      let here = f.within in
+-- The places from low on, where all below are in use.
+module _ (os : Orders) (low : ℕ) (below : (k : ℕ) → k < low → rests_at os k ≡ true) where
+  abbrev upper : Orders
+  upper = take (length os - low) (drop low os)
+
+  upper_is : upper ≡ drop low os
+  upper_is = take_all (length os - low) (drop low os) (simp length-drop (omega arith))
+
+  upper_at : (k : ℕ) → place_at upper k ≡ place_at os (low + k)
+  upper_at k = ap (λ l. place_at l k) upper_is ∙ get_or-drop low os k None
+
+  -- .. are in use up to n, as those below are.
+  upto : (n : ℕ) → ((k : ℕ) → k < n → rests_at upper k ≡ true) → (k : ℕ) → k < low + n → rests_at os k ≡ true
+  upto n used k lt =
+      ⊎_elim (below k)
+      (λ ge.
+      let there : low + (k - low) ≡ k = omega arith in
+      subst (λ m. rests_at os m ≡ true) there (ap is_some (sym (upper_at (k - low))) ∙ used (k - low) (omega arith)))
+      (cases_lt k low)
+
+  pub found_some : (i : ℕ) → (i < length upper) × (rests_at upper i ≡ false) → ((k : ℕ) → k < i → rests_at upper k ≡ true) → First os (low + i)
+  found_some i free before =
       record {
-        small = rw (length-set os i o) s.small;
+        within = omega (arith, free.0, ap length upper_is, length-drop low os);
+        free = ap is_some (sym (upper_at i)) ∙ free.1;
+        before = upto i before;
+      }
+
+  pub found_none : ((k : ℕ) → k < length upper → rests_at upper k ≡ true) → Found os None
+  found_none used k within = upto (length os - low) (λ m lt. used m (omega (arith, ap length upper_is, length-drop low os))) k (omega arith)
+
+module _ (os : Orders) (e : Ends) (s : Sound os e) (i : ℕ) where
+  -- An order entered at the first free place.
+  pub sound_entered : (o : OrderRecord) (r : ℕ) → First os i → o.time ≡ e.next
+      → e.high ≤ r → i + 1 ≤ r → ((n : ℕ) → e.high ≤ n → i + 1 ≤ n → r ≤ n)
+      → Sound (set os i (Some o)) (record { low = i + 1; high = r; next = e.next + 1 })
+  sound_entered o r f last le lt least =
+      let here = f.within in
+      let there = places os i (Some o) here in
+      record {
+        small = rw (length-set os i (Some o)) s.small;
         order = lt;
-        inside = rw (length-set os i o) (least (length os) s.inside (omega arith));
-        below = λ k h. places os i o here (λ m x. m < i + 1 → x.live ≡ true) (λ _. on) (λ m ne less. f.before m (omega (arith, ne))) k h;
-        above = λ k h. places os i o here (λ m x. r ≤ m → x.live ≡ false) (λ far. absurd (never far)) (λ m ne far. s.above m (omega arith)) k h;
-        tight = λ k h. places os i o here (λ m x. m + 1 ≡ r → x.live ≡ true) (λ _. on) (λ m ne last. s.tight m (top m ne last)) k h;
+        inside = rw (length-set os i (Some o)) (least (length os) s.inside (omega arith));
+        below = λ k h. there (λ m x. m < i + 1 → is_some x ≡ true) (λ _. refl) (λ m ne less. f.before m (omega (arith, ne))) k h;
+        above = λ k h. there (λ m x. r ≤ m → is_some x ≡ false) (λ far. absurd (never far)) (λ m ne far. s.above m (omega arith)) k h;
+        tight = λ k h. there (λ m x. m + 1 ≡ r → is_some x ≡ true) (λ _. refl) (λ m ne last. s.tight m (top m ne last)) k h;
         sequenced = sequenced_new os i o here e.next last s.sequenced;
       }
     where
@@ -76,47 +104,51 @@ module _ (os : List OrderRecord) (e : Ends) (s : Sound os e) (i : ℕ) where
 
   module _ (within : i < length os) where
     -- An order that leaves its place.
-    pub above_gone : (o : OrderRecord) → o.live ≡ false → (k : ℕ) → e.high ≤ k → (record_at (set os i o) k).live ≡ false
-    above_gone o free k h = places os i o within (λ m x. e.high ≤ m → x.live ≡ false) (λ _. free) (λ m ne far. s.above m far) k h
+    pub above_gone : (k : ℕ) → e.high ≤ k → rests_at (set os i None) k ≡ false
+    above_gone k h = places os i None within (λ m x. e.high ≤ m → is_some x ≡ false) (λ _. refl) (λ m ne far. s.above m far) k h
 
-    pub sound_gone : (o : OrderRecord) (r h : ℕ) → o.live ≡ false → r ≤ e.low → r ≤ i → h ≤ e.high
-        → ((k : ℕ) → h ≤ k → (record_at (set os i o) k).live ≡ false) → ((k : ℕ) → k + 1 ≡ h → (record_at (set os i o) k).live ≡ true)
-        → Sound (set os i o) (record { low = r; high = h; next = e.next })
-    sound_gone o r h free le lt less above tight =
+    pub sound_gone : (r h : ℕ) → r ≤ e.low → r ≤ i → h ≤ e.high
+        → ((k : ℕ) → h ≤ k → rests_at (set os i None) k ≡ false) → ((k : ℕ) → k + 1 ≡ h → rests_at (set os i None) k ≡ true)
+        → Sound (set os i None) (record { low = r; high = h; next = e.next })
+    sound_gone r h le lt less above tight =
         let upto = s.inside in
         record {
-          small = rw (length-set os i o) s.small;
-          order = ⊎_elim (λ under. absurd (both_ways (record_at (set os i o) h).live (above h (omega arith)) (below h under))) (λ at. at) (cases_lt h r);
-          inside = rw (length-set os i o) (omega arith);
+          small = rw (length-set os i None) s.small;
+          order = ⊎_elim (λ under. absurd (both_ways (rests_at (set os i None) h) (above h (omega arith)) (below h under))) (λ at. at) (cases_lt h r);
+          inside = rw (length-set os i None) (omega arith);
           below = below;
           above = above;
           tight = tight;
-          sequenced = sequenced_gone os i o within free e.next s.sequenced;
+          sequenced = sequenced_gone os i within e.next s.sequenced;
         }
       where
         never : i < r → ⊥
         never less = omega arith
 
-        below : (k : ℕ) → k < r → (record_at (set os i o) k).live ≡ true
-        below k h = places os i o within (λ m x. m < r → x.live ≡ true) (λ less. absurd (never less)) (λ m ne less. s.below m (omega arith)) k h
+        below : (k : ℕ) → k < r → rests_at (set os i None) k ≡ true
+        below k h = places os i None within (λ m x. m < r → is_some x ≡ true) (λ less. absurd (never less)) (λ m ne less. s.below m (omega arith)) k h
 
-    -- A live record in its own place, with some sequence of timestamps.
-    sound_there : (o : OrderRecord) (next : ℕ) → o.live ≡ (record_at os i).live → Sequenced next (set os i o) → Sound (set os i o) (record { low = e.low; high = e.high; next = next })
-    sound_there o next on q =
-        record {
-          small = rw (length-set os i o) s.small;
-          order = s.order;
-          inside = rw (length-set os i o) s.inside;
-          below = λ k h. places os i o within (λ m x. m < e.low → x.live ≡ true) (λ less. on ∙ s.below i less) (λ m ne less. s.below m less) k h;
-          above = λ k h. places os i o within (λ m x. e.high ≤ m → x.live ≡ false) (λ far. on ∙ s.above i far) (λ m ne far. s.above m far) k h;
-          tight = λ k h. places os i o within (λ m x. m + 1 ≡ e.high → x.live ≡ true) (λ top. on ∙ s.tight i top) (λ m ne top. s.tight m top) k h;
-          sequenced = q;
-        }
+    module _ (was : rests_at os i ≡ true) (o : OrderRecord) where
+      there : (P : ℕ → Option OrderRecord → Type 0) → P i (Some o) → ((k : ℕ) → (k ≡ i → ⊥) → P k (place_at os k)) → (k : ℕ) → P k (place_at (set os i (Some o)) k)
+      there = places os i (Some o) within
 
-    -- An order changed in place.
-    pub sound_changed : (o : OrderRecord) → o.live ≡ (record_at os i).live → o.time ≡ (record_at os i).time → Sound (set os i o) e
-    sound_changed o on same = sound_there o e.next on (sequenced_same os i o within (λ u. sym on ∙ u) same e.next s.sequenced)
+      -- A record in the place of another, with some sequence of timestamps.
+      sound_there : (next : ℕ) → Sequenced next (set os i (Some o)) → Sound (set os i (Some o)) (record { low = e.low; high = e.high; next = next })
+      sound_there next q =
+          record {
+            small = rw (length-set os i (Some o)) s.small;
+            order = s.order;
+            inside = rw (length-set os i (Some o)) s.inside;
+            below = λ k h. there (λ m x. m < e.low → is_some x ≡ true) (λ _. refl) (λ m ne less. s.below m less) k h;
+            above = λ k h. there (λ m x. e.high ≤ m → is_some x ≡ false) (λ far. sym was ∙ s.above i far) (λ m ne far. s.above m far) k h;
+            tight = λ k h. there (λ m x. m + 1 ≡ e.high → is_some x ≡ true) (λ _. refl) (λ m ne top. s.tight m top) k h;
+            sequenced = q;
+          }
 
-    -- An order with the next timestamp.
-    pub sound_moved : (o : OrderRecord) → o.live ≡ (record_at os i).live → o.time ≡ e.next → Sound (set os i o) (record { low = e.low; high = e.high; next = e.next + 1 })
-    sound_moved o on last = sound_there o (e.next + 1) on (sequenced_new os i o within e.next last s.sequenced)
+      -- An order changed in place.
+      pub sound_changed : o.time ≡ (record_at os i).time → Sound (set os i (Some o)) e
+      sound_changed same = sound_there e.next (sequenced_same os i o within was same e.next s.sequenced)
+
+      -- An order with the next timestamp.
+      pub sound_moved : o.time ≡ e.next → Sound (set os i (Some o)) (record { low = e.low; high = e.high; next = e.next + 1 })
+      sound_moved last = sound_there (e.next + 1) (sequenced_new os i o within e.next last s.sequenced)

@@ -1,26 +1,28 @@
 -- What a write at one place does to the records in sequence.
-use Rattle.std.proofs.Common.{◌≡◌, ℕ, zero, suc, ◌+◌, ◌<◌, ◌≤◌, Bool, true, false, cond, not, eqb, ltb, ◌⊎◌, List, [], ◌∷◌, ◌++◌, map, length, set, filter, sym, refl, ap, ◌∙◌, subst, inl, inr, ⊎_elim, arith}
+use Rattle.std.proofs.Common.{◌≡◌, ℕ, zero, suc, ◌+◌, ◌<◌, ◌≤◌, Bool, true, false, cond, not, eqb, ltb, ◌⊎◌, List, [], ◌∷◌, ◌++◌, map, length, set, filter, is_some, Some, None, Option, sym, refl, ap, ◌∙◌, subst, inl, inr, ⊎_elim, arith}
 use Rattle.std.specs.List.{remove}
 use Rattle.std.proofs.lemmas.List.{set-set, get_or-set_same, length-set}
-use Rattle.std.proofs.lemmas.Bool.{lt-ltb, le-ltb, ltb-true, ltb-false, eq-eqb, ne_eqb, cond-true, cond-false, cond_both, eqb-true, both_ways}
+use Rattle.std.proofs.lemmas.Bool.{lt-ltb, le-ltb, ltb-true, ltb-false, eq-eqb, ne_eqb, cond-true, cond-false, cond_both, eqb-true}
 use Rattle.table.specs.declared.records.OrderRecord.{OrderRecord}
-use Rattle.table.specs.Sequence.{blank_record, record_at, freed, in_turn, in_sequence, earlier, rank, Distinct, Older}
+use Rattle.table.specs.Sequence.{Orders, rests_at, record_at, in_turn, in_sequence, earlier, rank, Distinct, Older}
 
 -- P of each record
 abbrev pub Each : (OrderRecord → Type 0) → List OrderRecord → Type 0
 Each P [] = Unit {0}
 Each P (x ∷ xs) = P x × Each P xs
 
--- P of each live record
-abbrev pub Live : (OrderRecord → Type 0) → List OrderRecord → Type 0
+-- P of each record of a table
+abbrev pub Live : (OrderRecord → Type 0) → Orders → Type 0
 Live P [] = Unit {0}
-Live P (x ∷ xs) = (x.live ≡ true → P x) × Live P xs
+Live P (None ∷ os) = Live P os
+Live P (Some x ∷ os) = P x × Live P os
 
--- P of each live record but the one at the place i
-abbrev pub Others : (OrderRecord → Type 0) → List OrderRecord → ℕ → Type 0
+-- P of each record of a table but the one at the place i
+abbrev pub Others : (OrderRecord → Type 0) → Orders → ℕ → Type 0
 Others P [] i = Unit {0}
-Others P (x ∷ xs) zero = Live P xs
-Others P (x ∷ xs) (suc i) = (x.live ≡ true → P x) × Others P xs i
+Others P (x ∷ os) zero = Live P os
+Others P (None ∷ os) (suc i) = Others P os i
+Others P (Some x ∷ os) (suc i) = P x × Others P os i
 
 -- all but those with the timestamp t
 abbrev without : ℕ → List OrderRecord → List OrderRecord
@@ -43,13 +45,11 @@ each_turn P o (x ∷ xs) p h =
     elim (ltb o.time x.time) as (λ t. Each P (cond t (o ∷ x ∷ xs) (x ∷ in_turn o xs)))
     [ true ↦ (p, h) | false ↦ (h.0, each_turn P o xs p h.1) ]
 
-pub each_live : (P : OrderRecord → Type 0) (os : List OrderRecord) → Live P os → Each P (in_sequence os)
+pub each_live : (P : OrderRecord → Type 0) (os : Orders) → Live P os → Each P (in_sequence os)
 unfolding in_sequence
 each_live P [] h = tt
-each_live P (o ∷ os) h =
-    let all = each_live P os h.1 in
-    cond_both o.live (in_turn o (in_sequence os)) (in_sequence os) (Each P)
-    (λ e. each_turn P o (in_sequence os) (h.0 e) all) (λ e. all)
+each_live P (None ∷ os) h = each_live P os h
+each_live P (Some o ∷ os) h = each_turn P o (in_sequence os) h.0 (each_live P os h.1)
 
 -- A latest timestamp goes to the end.
 
@@ -63,16 +63,14 @@ turn_before x o (y ∷ l) h =
     elim (ltb x.time y.time) as (λ t. cond t (x ∷ y ∷ (l ++ (o ∷ []))) (y ∷ in_turn x (l ++ (o ∷ []))) ≡ cond t (x ∷ y ∷ l) (y ∷ in_turn x l) ++ (o ∷ []))
     [ true ↦ refl | false ↦ ap (λ m. y ∷ m) (turn_before x o l h) ]
 
-pub added : (os : List OrderRecord) (i : ℕ) (o : OrderRecord) → i < length os → (record_at os i).live ≡ false → o.live ≡ true
-    → Live (λ x. x.time < o.time) os → in_sequence (set os i o) ≡ in_sequence os ++ (o ∷ [])
+pub added : (os : Orders) (i : ℕ) (o : OrderRecord) → i < length os → rests_at os i ≡ false
+    → Live (λ x. x.time < o.time) os → in_sequence (set os i (Some o)) ≡ in_sequence os ++ (o ∷ [])
 unfolding in_sequence
-added [] i o lt free new h = absurd (omega arith)
-added (x ∷ os) zero o lt free new h =
-    cond-true _ _ _ new ∙ turn_last o (in_sequence os) (each_live (λ x. x.time < o.time) os h.1) ∙ ap (λ l. l ++ (o ∷ [])) (sym (cond-false _ _ _ free))
-added (x ∷ os) (suc i) o lt free new h =
-    let rest = added os i o (omega arith) free new h.1 in
-    let both : (t : Bool) → (t ≡ true → x.time < o.time) → cond t (in_turn x (in_sequence (set os i o))) (in_sequence (set os i o)) ≡ cond t (in_turn x (in_sequence os)) (in_sequence os) ++ (o ∷ []) = λ t. elim t as (λ t. (t ≡ true → x.time < o.time) → cond t (in_turn x (in_sequence (set os i o))) (in_sequence (set os i o)) ≡ cond t (in_turn x (in_sequence os)) (in_sequence os) ++ (o ∷ [])) [ true ↦ λ p. ap (in_turn x) rest ∙ turn_before x o (in_sequence os) (p refl) | false ↦ λ _. rest ] in
-    both x.live h.0
+added [] i o lt free h = absurd (omega arith)
+added (None ∷ os) zero o lt free h = turn_last o (in_sequence os) (each_live (λ x. x.time < o.time) os h)
+added (Some x ∷ os) zero o lt free h = cc
+added (None ∷ os) (suc i) o lt free h = added os i o (omega arith) free h
+added (Some x ∷ os) (suc i) o lt free h = ap (in_turn x) (added os i o (omega arith) free h.1) ∙ turn_before x o (in_sequence os) h.0
 
 -- A change in place keeps the timestamp.
 
@@ -89,23 +87,22 @@ swap_none : (o : OrderRecord) (l : List OrderRecord) → Each (λ x. x.time ≡ 
 swap_none o [] h = refl
 swap_none o (x ∷ l) h = λ j. cond-false _ o x (ne_eqb x.time o.time h.0) j ∷ swap_none o l h.1 j
 
-swapped_in : (os : List OrderRecord) (i : ℕ) (o : OrderRecord) → i < length os → (record_at os i).live ≡ true → o.live ≡ true → (record_at os i).time ≡ o.time
-    → Others (λ x. x.time ≡ o.time → ⊥) os i → in_sequence (set os i o) ≡ swapped o (in_sequence os)
+swapped_in : (os : Orders) (i : ℕ) (o : OrderRecord) → i < length os → rests_at os i ≡ true → (record_at os i).time ≡ o.time
+    → Others (λ x. x.time ≡ o.time → ⊥) os i → in_sequence (set os i (Some o)) ≡ swapped o (in_sequence os)
 unfolding in_sequence
-swapped_in [] i o lt was new same h = absurd (omega arith)
-swapped_in (x ∷ os) zero o lt was new same h =
+swapped_in [] i o lt was same h = absurd (omega arith)
+swapped_in (None ∷ os) zero o lt was same h = cc
+swapped_in (Some x ∷ os) zero o lt was same h =
     let rest = in_sequence os in
-    cond-true _ _ _ new
-    ∙ ap (λ y. in_turn y rest) (sym (cond-true _ o x (eq-eqb x.time o.time same)))
+    ap (λ y. in_turn y rest) (sym (cond-true _ o x (eq-eqb x.time o.time same)))
     ∙ ap (in_turn (swap o x)) (sym (swap_none o rest (each_live (λ y. y.time ≡ o.time → ⊥) os h)))
     ∙ sym (map_turn (swap o) (swap_keeps o) x rest)
-    ∙ ap (swapped o) (sym (cond-true _ _ _ was))
-swapped_in (x ∷ os) (suc i) o lt was new same h =
-    let rest = swapped_in os i o (omega arith) was new same h.1 in
+swapped_in (None ∷ os) (suc i) o lt was same h = swapped_in os i o (omega arith) was same h
+swapped_in (Some x ∷ os) (suc i) o lt was same h =
     let all = in_sequence os in
-    let after = in_sequence (set os i o) in
-    let both : (t : Bool) → (t ≡ true → x.time ≡ o.time → ⊥) → cond t (in_turn x after) after ≡ swapped o (cond t (in_turn x all) all) = λ t. elim t as (λ t. (t ≡ true → x.time ≡ o.time → ⊥) → cond t (in_turn x after) after ≡ swapped o (cond t (in_turn x all) all)) [ true ↦ λ p. ap (in_turn x) rest ∙ ap (λ y. in_turn y (swapped o all)) (sym (cond-false _ o x (ne_eqb x.time o.time (p refl)))) ∙ sym (map_turn (swap o) (swap_keeps o) x all) | false ↦ λ _. rest ] in
-    both x.live h.0
+    ap (in_turn x) (swapped_in os i o (omega arith) was same h.1)
+    ∙ ap (λ y. in_turn y (swapped o all)) (sym (cond-false _ o x (ne_eqb x.time o.time h.0)))
+    ∙ sym (map_turn (swap o) (swap_keeps o) x all)
 
 -- A removal.
 
@@ -145,12 +142,11 @@ rises_turn x (y ∷ l) h =
     (λ e. let lt = ltb-true x.time y.time e in ((omega arith, each_weaker (λ z. y.time ≤ z.time) (λ z. x.time ≤ z.time) (λ z k. omega arith) l h.0), h))
     (λ e. let le = ltb-false x.time y.time e in (each_turn (λ z. y.time ≤ z.time) x l le h.0, rises_turn x l h.1))
 
-pub rises_sequence : (os : List OrderRecord) → Rises (in_sequence os)
+pub rises_sequence : (os : Orders) → Rises (in_sequence os)
 unfolding in_sequence
 rises_sequence [] = tt
-rises_sequence (o ∷ os) =
-    let rest = rises_sequence os in
-    elim o.live as (λ t. Rises (cond t (in_turn o (in_sequence os)) (in_sequence os))) [ true ↦ rises_turn o (in_sequence os) rest | false ↦ rest ]
+rises_sequence (None ∷ os) = rises_sequence os
+rises_sequence (Some o ∷ os) = rises_turn o (in_sequence os) (rises_sequence os)
 
 pub turn_first : (x : OrderRecord) (l : List OrderRecord) → Each (λ y. x.time < y.time) l → in_turn x l ≡ x ∷ l
 turn_first x [] h = refl
@@ -169,37 +165,30 @@ without_turn s x (y ∷ l) ne h =
     ap (λ m. cond (other s y) (y ∷ m) m) (without_turn s x l ne h.1)
     ∙ (elim (other s y) as (λ t. cond t (y ∷ in_turn x w) (in_turn x w) ≡ in_turn x (cond t (y ∷ w) w)) [ true ↦ sym (cond-false _ _ _ e) | false ↦ refl ]))
 
-taken_out : (os : List OrderRecord) (i : ℕ) (n : OrderRecord) (s : ℕ) → i < length os → (record_at os i).live ≡ true → (record_at os i).time ≡ s → n.live ≡ false
-    → Others (λ x. x.time ≡ s → ⊥) os i → in_sequence (set os i n) ≡ without s (in_sequence os)
+taken_out : (os : Orders) (i s : ℕ) → i < length os → rests_at os i ≡ true → (record_at os i).time ≡ s
+    → Others (λ x. x.time ≡ s → ⊥) os i → in_sequence (set os i None) ≡ without s (in_sequence os)
 unfolding in_sequence
-taken_out [] i n s lt was same free h = absurd (omega arith)
-taken_out (x ∷ os) zero n s lt was same free h =
+taken_out [] i s lt was same h = absurd (omega arith)
+taken_out (None ∷ os) zero s lt was same h = cc
+taken_out (Some x ∷ os) zero s lt was same h =
     let rest = in_sequence os in
-    cond-false _ _ _ free ∙ sym (without_none s rest (each_live (λ y. y.time ≡ s → ⊥) os h)) ∙ sym (without_same s x rest same) ∙ ap (without s) (sym (cond-true _ _ _ was))
-taken_out (x ∷ os) (suc i) n s lt was same free h =
-    let rest = taken_out os i n s (omega arith) was same free h.1 in
-    let all = in_sequence os in
-    let after = in_sequence (set os i n) in
-    let both : (t : Bool) → (t ≡ true → x.time ≡ s → ⊥) → cond t (in_turn x after) after ≡ without s (cond t (in_turn x all) all) = λ t. elim t as (λ t. (t ≡ true → x.time ≡ s → ⊥) → cond t (in_turn x after) after ≡ without s (cond t (in_turn x all) all)) [ true ↦ λ p. ap (in_turn x) rest ∙ sym (without_turn s x all (p refl) (rises_sequence os)) | false ↦ λ _. rest ] in
-    both x.live h.0
+    sym (without_none s rest (each_live (λ y. y.time ≡ s → ⊥) os h)) ∙ sym (without_same s x rest same)
+taken_out (None ∷ os) (suc i) s lt was same h = taken_out os i s (omega arith) was same h
+taken_out (Some x ∷ os) (suc i) s lt was same h =
+    ap (in_turn x) (taken_out os i s (omega arith) was same h.1) ∙ sym (without_turn s x (in_sequence os) h.0 (rises_sequence os))
 
--- A free place that stays free.
-pub still_free : (os : List OrderRecord) (i : ℕ) (n : OrderRecord) → (record_at os i).live ≡ false → n.live ≡ false → in_sequence (set os i n) ≡ in_sequence os
-unfolding in_sequence
-still_free [] i n was free = refl
-still_free (x ∷ os) zero n was free = cond-false _ _ _ free ∙ sym (cond-false _ _ _ was)
-still_free (x ∷ os) (suc i) n was free = ap (λ l. cond x.live (in_turn x l) l) (still_free os i n was free)
+-- From places to the records of the table.
 
--- From places to the records of the list.
-
-pub live_from : (P : OrderRecord → Type 0) (os : List OrderRecord) → ((k : ℕ) → k < length os → (record_at os k).live ≡ true → P (record_at os k)) → Live P os
+pub live_from : (P : OrderRecord → Type 0) (os : Orders) → ((k : ℕ) → k < length os → rests_at os k ≡ true → P (record_at os k)) → Live P os
 live_from P [] h = tt
-live_from P (x ∷ os) h = (h 0 (omega arith), live_from P os (λ k lt. h (suc k) (omega arith)))
+live_from P (None ∷ os) h = live_from P os (λ k lt. h (suc k) (omega arith))
+live_from P (Some x ∷ os) h = (h 0 (omega arith) refl, live_from P os (λ k lt. h (suc k) (omega arith)))
 
-others_from : (P : OrderRecord → Type 0) (os : List OrderRecord) (i : ℕ) → ((k : ℕ) → k < length os → (k ≡ i → ⊥) → (record_at os k).live ≡ true → P (record_at os k)) → Others P os i
+others_from : (P : OrderRecord → Type 0) (os : Orders) (i : ℕ) → ((k : ℕ) → k < length os → (k ≡ i → ⊥) → rests_at os k ≡ true → P (record_at os k)) → Others P os i
 others_from P [] i h = tt
 others_from P (x ∷ os) zero h = live_from P os (λ k lt. h (suc k) (omega arith) (λ e. omega arith))
-others_from P (x ∷ os) (suc i) h = (h 0 (omega arith) (λ e. omega arith), others_from P os i (λ k lt ne. h (suc k) (omega arith) (λ e. ne (omega arith))))
+others_from P (None ∷ os) (suc i) h = others_from P os i (λ k lt ne. h (suc k) (omega arith) (λ e. ne (omega arith)))
+others_from P (Some x ∷ os) (suc i) h = (h 0 (omega arith) (λ e. omega arith) refl, others_from P os i (λ k lt ne. h (suc k) (omega arith) (λ e. ne (omega arith))))
 
 -- With no timestamp twice the sequence rises strictly.
 
@@ -207,9 +196,10 @@ abbrev pub Climbs : List OrderRecord → Type 0
 Climbs [] = Unit {0}
 Climbs (x ∷ l) = Each (λ y. x.time < y.time) l × Climbs l
 
-abbrev Apart : List OrderRecord → Type 0
+abbrev Apart : Orders → Type 0
 Apart [] = Unit {0}
-Apart (o ∷ os) = (o.live ≡ true → Live (λ x. x.time ≡ o.time → ⊥) os) × Apart os
+Apart (None ∷ os) = Apart os
+Apart (Some o ∷ os) = Live (λ x. x.time ≡ o.time → ⊥) os × Apart os
 
 climbs_turn : (x : OrderRecord) (l : List OrderRecord) → Each (λ y. y.time ≡ x.time → ⊥) l → Climbs l → Climbs (in_turn x l)
 climbs_turn x [] a h = (tt, tt)
@@ -218,54 +208,52 @@ climbs_turn x (y ∷ l) a h =
     (λ e. let lt = ltb-true x.time y.time e in ((lt, each_weaker (λ z. y.time < z.time) (λ z. x.time < z.time) (λ z k. omega arith) l h.0), h))
     (λ e. let le = ltb-false x.time y.time e in let ne = a.0 in let lt : y.time < x.time = omega arith in (each_turn (λ z. y.time < z.time) x l lt h.0, climbs_turn x l a.1 h.1))
 
-climbs_apart : (os : List OrderRecord) → Apart os → Climbs (in_sequence os)
+climbs_apart : (os : Orders) → Apart os → Climbs (in_sequence os)
 unfolding in_sequence
 climbs_apart [] a = tt
-climbs_apart (o ∷ os) a =
-    let rest = climbs_apart os a.1 in
-    cond_both o.live (in_turn o (in_sequence os)) (in_sequence os) Climbs
-    (λ e. climbs_turn o (in_sequence os) (each_live (λ x. x.time ≡ o.time → ⊥) os (a.0 e)) rest) (λ e. rest)
+climbs_apart (None ∷ os) a = climbs_apart os a
+climbs_apart (Some o ∷ os) a = climbs_turn o (in_sequence os) (each_live (λ x. x.time ≡ o.time → ⊥) os a.0) (climbs_apart os a.1)
 
-apart_from : (os : List OrderRecord) → Distinct os → Apart os
+apart_from : (os : Orders) → Distinct os → Apart os
 apart_from [] h = tt
-apart_from (o ∷ os) h = (
-  (λ on. live_from (λ x. x.time ≡ o.time → ⊥) os (λ k lt also same. let e = h (suc k) 0 (omega arith) (omega arith) also on same in omega arith)),
+apart_from (None ∷ os) h = apart_from os (λ j k lj lk uj uk same. let e = h (suc j) (suc k) (omega arith) (omega arith) uj uk same in omega arith)
+apart_from (Some o ∷ os) h = (
+  live_from (λ x. x.time ≡ o.time → ⊥) os (λ k lt also same. let e = h (suc k) 0 (omega arith) (omega arith) also refl same in omega arith),
   apart_from os (λ j k lj lk uj uk same. let e = h (suc j) (suc k) (omega arith) (omega arith) uj uk same in omega arith),
 )
 
-pub climbs : (os : List OrderRecord) → Distinct os → Climbs (in_sequence os)
+pub climbs : (os : Orders) → Distinct os → Climbs (in_sequence os)
 climbs os d = climbs_apart os (apart_from os d)
 
-pub all_live : (os : List OrderRecord) → Each (λ x. x.live ≡ true) (in_sequence os)
-all_live os = each_live (λ x. x.live ≡ true) os (live_from (λ x. x.live ≡ true) os (λ k lt on. on))
-
--- As many live records are earlier in the table as in its sequence.
+-- As many records are earlier in the table as in its sequence.
 
 abbrev pub one : OrderRecord → ℕ → ℕ
-one r t = cond r.live (cond (ltb r.time t) 1 0) 0
+one r t = cond (ltb r.time t) 1 0
 
-earlier_turn : (r : OrderRecord) (l : List OrderRecord) (t : ℕ) → earlier (in_turn r l) t ≡ one r t + earlier l t
+-- how many records of a list have a timestamp below t
+abbrev pub before : List OrderRecord → ℕ → ℕ
+before [] t = 0
+before (x ∷ l) t = one x t + before l t
+
+earlier_turn : (r : OrderRecord) (l : List OrderRecord) (t : ℕ) → before (in_turn r l) t ≡ one r t + before l t
 earlier_turn r [] t = refl
 earlier_turn r (x ∷ l) t =
-    cond_both (ltb r.time x.time) (r ∷ x ∷ l) (x ∷ in_turn r l) (λ m. earlier m t ≡ one r t + (one x t + earlier l t))
+    cond_both (ltb r.time x.time) (r ∷ x ∷ l) (x ∷ in_turn r l) (λ m. before m t ≡ one r t + (one x t + before l t))
     (λ e. refl) (λ e. let rest = earlier_turn r l t in omega arith)
 
-pub earlier_sequence : (os : List OrderRecord) (t : ℕ) → earlier (in_sequence os) t ≡ earlier os t
+pub earlier_sequence : (os : Orders) (t : ℕ) → before (in_sequence os) t ≡ earlier os t
 unfolding in_sequence
 earlier_sequence [] t = refl
-earlier_sequence (o ∷ os) t =
-    let rest = earlier_sequence os t in
-    cond_both o.live (in_turn o (in_sequence os)) (in_sequence os) (λ m. earlier m t ≡ one o t + earlier os t)
-    (λ e. let more = earlier_turn o (in_sequence os) t in omega arith)
-    (λ e. let none : one o t ≡ 0 = cond-false _ _ _ e in omega arith)
+earlier_sequence (None ∷ os) t = earlier_sequence os t
+earlier_sequence (Some o ∷ os) t = earlier_turn o (in_sequence os) t ∙ ap (λ n. one o t + n) (earlier_sequence os t)
 
-pub one_yes : (r : OrderRecord) (t : ℕ) → r.live ≡ true → r.time < t → one r t ≡ 1
-one_yes r t on lt = cond-true _ _ _ on ∙ cond-true _ _ _ (lt-ltb r.time t lt)
+pub one_yes : (r : OrderRecord) (t : ℕ) → r.time < t → one r t ≡ 1
+one_yes r t lt = cond-true _ _ _ (lt-ltb r.time t lt)
 
 pub one_no : (r : OrderRecord) (t : ℕ) → t ≤ r.time → one r t ≡ 0
-one_no r t le = cond_both r.live (cond (ltb r.time t) 1 0) 0 (λ n. n ≡ 0) (λ e. cond-false _ _ _ (le-ltb r.time t le)) (λ e. refl)
+one_no r t le = cond-false _ _ _ (le-ltb r.time t le)
 
-pub earlier_none : (l : List OrderRecord) (t : ℕ) → Each (λ y. t ≤ y.time) l → earlier l t ≡ 0
+pub earlier_none : (l : List OrderRecord) (t : ℕ) → Each (λ y. t ≤ y.time) l → before l t ≡ 0
 earlier_none [] t h = refl
 earlier_none (x ∷ l) t h = let a = one_no x t h.0 in let b = earlier_none l t h.1 in omega arith
 
@@ -279,15 +267,15 @@ pub each_on : (P : OrderRecord → Type 0) (l : List OrderRecord) (y : OrderReco
 each_on P [] y h m = absurd m
 each_on P (x ∷ l) y h m = ⊎_elim (λ e. subst P (sym e) h.0) (λ n. each_on P l y h.1 n) m
 
-pub at_first : (x : OrderRecord) (l : List OrderRecord) (t : ℕ) → x.time ≡ t → Each (λ y. x.time < y.time) l → earlier (x ∷ l) t ≡ 0
+pub at_first : (x : OrderRecord) (l : List OrderRecord) (t : ℕ) → x.time ≡ t → Each (λ y. x.time < y.time) l → before (x ∷ l) t ≡ 0
 at_first x l t e up = earlier_none (x ∷ l) t (omega arith, each_weaker (λ y. x.time < y.time) (λ y. t ≤ y.time) (λ y lt. omega arith) l up)
 
-pub at_later : (x : OrderRecord) (l : List OrderRecord) (t : ℕ) → x.live ≡ true → x.time < t → earlier (x ∷ l) t ≡ suc (earlier l t)
-at_later x l t on lt = let a = one_yes x t on lt in omega arith
+pub at_later : (x : OrderRecord) (l : List OrderRecord) (t : ℕ) → x.time < t → before (x ∷ l) t ≡ suc (before l t)
+at_later x l t lt = let a = one_yes x t lt in omega arith
 
-swapped_is_set : (o : OrderRecord) (l : List OrderRecord) (y : OrderRecord) → Climbs l → Each (λ x. x.live ≡ true) l → On y l → y.time ≡ o.time → swapped o l ≡ set l (earlier l o.time) o
-swapped_is_set o [] y up on m same = absurd m
-swapped_is_set o (x ∷ l) y up on m same =
+swapped_is_set : (o : OrderRecord) (l : List OrderRecord) (y : OrderRecord) → Climbs l → On y l → y.time ≡ o.time → swapped o l ≡ set l (before l o.time) o
+swapped_is_set o [] y up m same = absurd m
+swapped_is_set o (x ∷ l) y up m same =
     ⊎_elim
     (λ e.
     let is : x.time ≡ o.time = ap (λ (z : OrderRecord). z.time) (sym e) ∙ same in
@@ -295,13 +283,13 @@ swapped_is_set o (x ∷ l) y up on m same =
     ∙ ap (λ k. set (x ∷ l) k o) (sym (at_first x l o.time is up.0)))
     (λ n.
     let lt : x.time < o.time = omega (arith, each_on (λ z. x.time < z.time) l y up.0 n, same) in
-    (λ j. cond-false _ o x (ne_eqb x.time o.time (λ k. omega arith)) j ∷ swapped_is_set o l y up.1 on.1 n same j)
-    ∙ ap (λ k. set (x ∷ l) k o) (sym (at_later x l o.time on.0 lt)))
+    (λ j. cond-false _ o x (ne_eqb x.time o.time (λ k. omega arith)) j ∷ swapped_is_set o l y up.1 n same j)
+    ∙ ap (λ k. set (x ∷ l) k o) (sym (at_later x l o.time lt)))
     m
 
-without_is_removed : (s : ℕ) (l : List OrderRecord) (y : OrderRecord) → Climbs l → Each (λ x. x.live ≡ true) l → On y l → y.time ≡ s → without s l ≡ remove l (earlier l s)
-without_is_removed s [] y up on m same = absurd m
-without_is_removed s (x ∷ l) y up on m same =
+without_is_removed : (s : ℕ) (l : List OrderRecord) (y : OrderRecord) → Climbs l → On y l → y.time ≡ s → without s l ≡ remove l (before l s)
+without_is_removed s [] y up m same = absurd m
+without_is_removed s (x ∷ l) y up m same =
     ⊎_elim
     (λ e.
     let is : x.time ≡ s = ap (λ (z : OrderRecord). z.time) (sym e) ∙ same in
@@ -311,8 +299,8 @@ without_is_removed s (x ∷ l) y up on m same =
     (λ n.
     let lt : x.time < s = omega (arith, each_on (λ z. x.time < z.time) l y up.0 n, same) in
     cond-true _ _ _ (other_yes s x (λ k. omega arith))
-    ∙ ap (λ m. x ∷ m) (without_is_removed s l y up.1 on.1 n same)
-    ∙ ap (λ k. remove (x ∷ l) k) (sym (at_later x l s on.0 lt)))
+    ∙ ap (λ m. x ∷ m) (without_is_removed s l y up.1 n same)
+    ∙ ap (λ k. remove (x ∷ l) k) (sym (at_later x l s lt)))
     m
 
 on_turn_new : (x : OrderRecord) (l : List OrderRecord) → On x (in_turn x l)
@@ -325,48 +313,50 @@ on_turn x z (y ∷ l) h =
     elim (ltb x.time y.time) as (λ t. On z (cond t (x ∷ y ∷ l) (y ∷ in_turn x l)))
     [ true ↦ inr h | false ↦ ⊎_elim (λ e. inl e) (λ m. inr (on_turn x z l m)) h ]
 
-pub on_sequence : (os : List OrderRecord) (i : ℕ) → i < length os → (record_at os i).live ≡ true → On (record_at os i) (in_sequence os)
+pub on_sequence : (os : Orders) (i : ℕ) → i < length os → rests_at os i ≡ true → On (record_at os i) (in_sequence os)
 unfolding in_sequence
 on_sequence [] i lt on = absurd (omega arith)
-on_sequence (o ∷ os) zero lt on = subst (On o) (sym (cond-true _ _ _ on)) (on_turn_new o (in_sequence os))
-on_sequence (o ∷ os) (suc i) lt on =
-    let rest = on_sequence os i (omega arith) on in
-    elim o.live as (λ t. On (record_at os i) (cond t (in_turn o (in_sequence os)) (in_sequence os))) [ true ↦ on_turn o (record_at os i) (in_sequence os) rest | false ↦ rest ]
+on_sequence (None ∷ os) zero lt on = cc
+on_sequence (Some o ∷ os) zero lt on = on_turn_new o (in_sequence os)
+on_sequence (None ∷ os) (suc i) lt on = on_sequence os i (omega arith) on
+on_sequence (Some o ∷ os) (suc i) lt on = on_turn o (record_at os i) (in_sequence os) (on_sequence os i (omega arith) on)
 
-live_set : (P : OrderRecord → Type 0) (os : List OrderRecord) (i : ℕ) (n : OrderRecord) → n.live ≡ false → Live P os → Live P (set os i n)
-live_set P [] i n free h = tt
-live_set P (x ∷ os) zero n free h = (λ e. absurd (both_ways n.live free e), h.1)
-live_set P (x ∷ os) (suc i) n free h = (h.0, live_set P os i n free h.1)
+live_set : (P : OrderRecord → Type 0) (os : Orders) (i : ℕ) → Live P os → Live P (set os i None)
+live_set P [] i h = tt
+live_set P (None ∷ os) zero h = h
+live_set P (Some x ∷ os) zero h = h.1
+live_set P (None ∷ os) (suc i) h = live_set P os i h
+live_set P (Some x ∷ os) (suc i) h = (h.0, live_set P os i h.1)
 
 -- A record written at a free place with the next timestamp.
-pub entered : (os : List OrderRecord) (i : ℕ) (o : OrderRecord) → i < length os → (record_at os i).live ≡ false → o.live ≡ true
-    → Older o.time os → in_sequence (set os i o) ≡ in_sequence os ++ (o ∷ [])
-entered os i o within free new older = added os i o within free new (live_from (λ x. x.time < o.time) os older)
+pub entered : (os : Orders) (i : ℕ) (o : OrderRecord) → i < length os → rests_at os i ≡ false
+    → Older o.time os → in_sequence (set os i (Some o)) ≡ in_sequence os ++ (o ∷ [])
+entered os i o within free older = added os i o within free (live_from (λ x. x.time < o.time) os older)
 
--- A write at the place of a live record, by its rank.
-module _ (os : List OrderRecord) (i : ℕ) (within : i < length os) (was : (record_at os i).live ≡ true) (apart : Distinct os) where
+-- A write at the place of a record, by its rank.
+module _ (os : Orders) (i : ℕ) (within : i < length os) (was : rests_at os i ≡ true) (apart : Distinct os) where
   alone : Others (λ x. x.time ≡ (record_at os i).time → ⊥) os i
   alone = others_from (λ x. x.time ≡ (record_at os i).time → ⊥) os i (λ k lt ne on same. ne (apart k i lt within on was same))
 
-  pub changed : (o : OrderRecord) → o.live ≡ true → o.time ≡ (record_at os i).time → in_sequence (set os i o) ≡ set (in_sequence os) (rank os i) o
-  changed o new same =
+  pub changed : (o : OrderRecord) → o.time ≡ (record_at os i).time → in_sequence (set os i (Some o)) ≡ set (in_sequence os) (rank os i) o
+  changed o same =
       let s = in_sequence os in
-      swapped_in os i o within was new (sym same) (subst (λ t. Others (λ x. x.time ≡ t → ⊥) os i) (sym same) alone)
-      ∙ swapped_is_set o s (record_at os i) (climbs os apart) (all_live os) (on_sequence os i within was) (sym same)
+      swapped_in os i o within was (sym same) (subst (λ t. Others (λ x. x.time ≡ t → ⊥) os i) (sym same) alone)
+      ∙ swapped_is_set o s (record_at os i) (climbs os apart) (on_sequence os i within was) (sym same)
       ∙ ap (λ k. set s k o) (earlier_sequence os o.time ∙ ap (earlier os) same)
 
-  pub gone : (o : OrderRecord) → o.live ≡ false → in_sequence (set os i o) ≡ remove (in_sequence os) (rank os i)
-  gone o free =
+  pub gone : in_sequence (set os i None) ≡ remove (in_sequence os) (rank os i)
+  gone =
       let s = in_sequence os in
       let t = (record_at os i).time in
-      taken_out os i o t within was refl free alone
-      ∙ without_is_removed t s (record_at os i) (climbs os apart) (all_live os) (on_sequence os i within was) refl
+      taken_out os i t within was refl alone
+      ∙ without_is_removed t s (record_at os i) (climbs os apart) (on_sequence os i within was) refl
       ∙ ap (remove s) (earlier_sequence os t)
 
-  pub renewed : (o : OrderRecord) → o.live ≡ true → Older o.time os → in_sequence (set os i o) ≡ remove (in_sequence os) (rank os i) ++ (o ∷ [])
-  renewed o new older =
-      let n = freed o in
-      let long : i < length (set os i n) = simp length-set within in
-      ap in_sequence (sym (set-set os i n o))
-      ∙ added (set os i n) i o long (ap (λ (x : OrderRecord). x.live) (get_or-set_same os i n blank_record within)) new (live_set (λ x. x.time < o.time) os i n refl (live_from (λ x. x.time < o.time) os older))
-      ∙ ap (λ l. l ++ (o ∷ [])) (gone n refl)
+  pub renewed : (o : OrderRecord) → Older o.time os → in_sequence (set os i (Some o)) ≡ remove (in_sequence os) (rank os i) ++ (o ∷ [])
+  renewed o older =
+      let free = set os i None in
+      let long : i < length free = simp length-set within in
+      ap in_sequence (sym (set-set os i None (Some o)))
+      ∙ added free i o long (ap is_some (get_or-set_same os i None None within)) (live_set (λ x. x.time < o.time) os i (live_from (λ x. x.time < o.time) os older))
+      ∙ ap (λ l. l ++ (o ∷ [])) gone

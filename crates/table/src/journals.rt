@@ -1,23 +1,15 @@
 //! The journal of the places where the table was written to since its spare copy was brought up to date.
-ghost use Rattle.std.specs.Prelude.{ℕ, ◌<◌, ◌≤◌};
+ghost use Rattle.std.specs.Prelude.{◌<◌};
 ghost use Rattle.table.specs.Noting.{Follows};
 
-/// The first `count` places are those noted, with repeats; `full` says that there was no room for one.
-/// No place from `high` on was written to.
-#[derive(Clone, Copy, Drop)]
-pub struct Journal {
-    pub places: [u16; 128],
-    pub count: usize,
-    pub full: bool,
-    pub high: usize,
-}
+use arrayvec::ArrayVec;
 
-/// The least mark from `high` on that lies above the place i.
-fn beyond(high: usize, i: usize) -> usize
-    requires { i < 65536 }
-    ensures { (high ≤ result) × (i < result) × ((n : ℕ) → high ≤ n → i < n → result ≤ n) }
-{
-    if high <= i { i + 1 } else { high }
+/// `noted` are the places written to, with repeats, or nothing where there was no room for one.
+/// No place from `high` on was written to.
+#[derive(Drop)]
+pub struct Journal {
+    pub noted: Option<ArrayVec<u16, 128>>,
+    pub high: usize,
 }
 
 impl Journal {
@@ -26,12 +18,11 @@ impl Journal {
         requires { i < 65536 }
         ensures { Follows i self.old self.new }
     {
-        self.high = beyond(self.high, i);
-        if self.count < 128 {
-            self.places[self.count] = i as u16;
-            self.count += 1;
-        } else {
-            self.full = true;
+        self.high = self.high.max(i + 1);
+        match &mut self.noted {
+            Some(noted) if noted.is_full() => self.noted = None,
+            Some(noted) => noted.push(i as u16),
+            None => {}
         }
     }
 }

@@ -1,13 +1,12 @@
-//! A place of the order table.
+//! What the order table has at a place in use.
 ghost use Rattle.std.specs.Prelude.{◌≡◌};
-ghost use Rattle.table.specs.Sequence.{record_of, freed, stamped};
+ghost use Rattle.table.specs.Sequence.{record_of, stamped};
 
 use types::RestingOrder;
 
 /// An order at its place. `time` is its priority timestamp; `drawn` is what the run going on has drawn from its reserve.
 #[derive(Clone, Copy)]
 pub struct OrderRecord {
-    pub live: bool,
     pub time: u64,
     pub drawn: u32,
     pub resting: RestingOrder,
@@ -19,28 +18,16 @@ impl OrderRecord {
         ensures { result ≡ record_of time resting }
     {
         OrderRecord {
-            live: true,
             time,
             drawn: 0,
             resting,
         }
     }
 
-    /// The record with its place set free.
-    pub fn freed(self) -> OrderRecord
-        ensures { result ≡ freed self }
-    {
-        let mut after = self;
-        after.live = false;
-        after
-    }
-
     /// The record with another timestamp.
     pub fn stamped(self, time: u64) -> OrderRecord
         ensures { result ≡ stamped time self }
     {
-        let mut after = self;
-        after.time = time;
-        after
+        OrderRecord { time, ..self }
     }
 }

@@ -1,13 +1,12 @@
-use Rattle.std.proofs.Common.{arith}
+use Rattle.std.proofs.Common.{None, refl}
 use Rattle.table.proofs.Noting.{noted_one, noted_none}
 use Rattle.table.proofs.journals.Journal.note.Goals as goal
 
-pub returns-then-self-lt128 : goal.returns-then-self-lt128
-returns-then-self-lt128 c =
-    let b = c.beyond-self.ensures in
-    noted_one c.args.self.now c.args.i c.beyond-self.result b.0 b.1 b.2 (omega arith) (omega arith)
+pub returns-in-Some : goal.returns-in-Some
+returns-in-Some c = noted_none c.args.self.now c.args.i c.max-self.result c.max-self.ensures None refl
 
-pub returns-else-self-lt128 : goal.returns-else-self-lt128
-returns-else-self-lt128 c =
-    let b = c.beyond-self.ensures in
-    noted_none c.args.self.now c.args.i c.beyond-self.result b.0 b.1 b.2
+pub returns-in-Some-2 : goal.returns-in-Some-2
+returns-in-Some-2 c = noted_one c.args.self.now c.args.i c.max-self.result c.max-self.ensures c.in-Some.noted c.push.new.self c.in-Some.is c.push.ensures.items
+
+pub returns-in-None : goal.returns-in-None
+returns-in-None c = noted_none c.args.self.now c.args.i c.max-self.result c.max-self.ensures c.args.self.now.noted c.in-None.is

@@ -1,0 +1,12 @@
+use Rattle.std.proofs.Common.{◌+◌, set, Some, sym, refl, ap, ◌∙◌, subst, arith}
+use Rattle.table.specs.Sequence.{stamped, resting_of}
+use Rattle.table.proofs.Kept.{rests_within}
+use Rattle.table.proofs.Resting.{gone, changed, renewed}
+use Rattle.table.proofs.order_table.OrderTable.leave.Goals as goal
+
+pub returns-clause-list : goal.returns-clause-list
+returns-clause-list c =
+    let t = c.args.self.now in
+    let os = t.places.now in
+    let i = c.args.i in
+    rw c.write.ensures.table (gone os i (rests_within os i c.requires) c.requires t.sound.sequenced.distinct)
