@@ -1,5 +1,5 @@
 -- A run on the table goes as the run on its time list. Assumes nothing.
-use Rattle.std.proofs.Common.{◌≡◌, ℕ, zero, suc, ◌+◌, ◌-◌, ◌*◌, ◌<◌, ◌≤◌, min, Bool, true, false, cond, eqb, ltb, List, [], ◌∷◌, ◌++◌, reverse, length, get_or, set, Some, None, Option, sym, refl, ap, ◌∙◌, subst, arith, length-set}
+use Rattle.std.proofs.Common.{◌≡◌, ℕ, zero, suc, ◌+◌, ◌-◌, ◌*◌, ◌<◌, ◌≤◌, min, Bool, true, false, cond, eqb, ltb, List, [], ◌∷◌, ◌++◌, reverse, length, get_or, set, is_some, Some, None, Option, sym, refl, ap, ◌∙◌, subst, arith, length-set}
 use mathlib.Core.List.{reverse-append}
 use lib.ListN.{length-reverse}
 use Rattle.std.proofs.lemmas.Bool.{eqb-true, eqb-false}
@@ -18,37 +18,33 @@ use Rattle.runs.specs.Meetings.{Effect, shares, trading, smaller_out, prevents, 
 use Rattle.runs.specs.Runs.{Progress, holding, meet, next_slice, in_play, run}
 use Rattle.runs.proofs.Runs.{chosen, falls, run_stop, run_next}
 use Rattle.table.specs.declared.records.OrderRecord.{OrderRecord}
-use Rattle.table.specs.declared.journals.Journal.{Journal}
-use Rattle.table.specs.declared.ends.Ends.{Ends}
-use Rattle.table.specs.Sequence.{blank_record, record_at, rank, resting_of, Distinct}
-use Rattle.table.specs.Noting.{Moved}
-use Rattle.table.specs.Places.{Sound}
-use Rattle.table.proofs.Kept.{places}
-use Rattle.table.proofs.Noting.{moved_none, moved_both}
+use Rattle.table.specs.declared.order_table.OrderTable.{OrderTable}
+use Rattle.table.specs.Sequence.{Orders, blank_record, rests_at, held, record_at, rank, resting_of, Distinct}
+use Rattle.table.specs.Writing.{Written}
+use Rattle.table.proofs.Kept.{rests_within, places}
 use Rattle.table.proofs.Resting.{changed, at_rank}
+use Rattle.table.proofs.Writing.{written_none, written_both}
 use Rattle.scan.specs.declared.Candidate.{Candidate}
-use Rattle.scan.specs.Leading.{slice_on, slice_of}
-use Rattle.scan.proofs.Leading.{live_inside}
+use Rattle.scan.specs.Leading.{slice_on, Leads, slice_of}
+use Rattle.scan.proofs.Leading.{leads_rests}
+use Rattle.sheet.specs.declared.EventSheet.{EventSheet}
 use Rattle.sheet.specs.Sheets.{Adds}
-use Rattle.sheet.proofs.Sheets.{adds_none, adds_more}
-use Rattle.matching.specs.Meetings.{slice_from, met}
+use Rattle.sheet.proofs.Sheets.{adds_none, adds_more, adds_same}
+use Rattle.matching.specs.Meetings.{slice_from, met, comes_of}
 use Rattle.matching.specs.Running.{on_table, SameOrder, SameOrders, AllMayRest}
 
 -- What a meeting comes to goes by the slice, wherever its order stands.
-pub anywhere : (view : View) (a : Order) (left : ℕ) (s : Slice) → meeting view a left (slice_from s.resting s.hidden) ≡ meeting view a left s
+pub anywhere : (view : View) (a : Order) (left place : ℕ) (o : RestingOrder) (hidden : Bool) → meeting view a left (record { place = place; resting = o; hidden = hidden }) ≡ meeting view a left (slice_from o hidden)
 unfolding meeting trading
-anywhere view a left s = go (prevents a s.resting.order)
+anywhere view a left place o hidden = go (prevents a o.order)
   where
-    go : (i : Option StpInstruction) → by_instruction i view a left (slice_from s.resting s.hidden) ≡ by_instruction i view a left s
+    go : (i : Option StpInstruction) → by_instruction i view a left (record { place = place; resting = o; hidden = hidden }) ≡ by_instruction i view a left (slice_from o hidden)
     go None = refl
     go (Some Off) = refl
     go (Some TradeAndSuppress) = refl
     go (Some CancelAndDecrement) = refl
     go (Some CancelNewest) = refl
     go (Some CancelOldest) = refl
-
-pub adds_along : {f g : Effect} {s : List Report} {c : ℕ} {s' : List Report} {c' : ℕ} → f ≡ g → Adds s c s' c' (reverse f.reports) → Adds s c s' c' (reverse g.reports)
-adds_along {s = s} {c = c} {s' = s'} {c' = c'} e h = subst (λ (f : Effect). Adds s c s' c' (reverse f.reports)) e h
 
 -- A meeting gives neither order volume, and makes two reports at most.
 pub record Mild (v : ℕ) (o : RestingOrder) (f : Effect) : Type 0 where
@@ -98,16 +94,16 @@ mild view a left s = go (prevents a s.resting.order)
 -- The orders stay the same.
 
 same_order : (r : OrderRecord) → SameOrder r r
-same_order r = record { live = refl; time = refl; order = refl; drawn = refl; volume = omega arith }
+same_order r = record { time = refl; order = refl; drawn = refl; volume = omega arith }
 
-pub same_none : (os : List OrderRecord) → SameOrders os os
-same_none os = record { places = refl; each = λ k. same_order (record_at os k) }
+pub same_none : (os : Orders) → SameOrders os os
+same_none os = record { places = refl; rests = λ k. refl; each = λ k. same_order (record_at os k) }
 
-pub same_both : (os os' os'' : List OrderRecord) → SameOrders os os' → SameOrders os' os'' → SameOrders os os''
+pub same_both : (os os' os'' : Orders) → SameOrders os os' → SameOrders os' os'' → SameOrders os os''
 same_both os os' os'' p q = record {
   places = q.places ∙ p.places;
+  rests = λ k. q.rests k ∙ p.rests k;
   each = λ k. record {
-    live = (q.each k).live ∙ (p.each k).live;
     time = (q.each k).time ∙ (p.each k).time;
     order = (q.each k).order ∙ (p.each k).order;
     drawn = (q.each k).drawn ∙ (p.each k).drawn;
@@ -115,38 +111,24 @@ same_both os os' os'' p q = record {
   };
 }
 
-pub met_same : (v : ℕ) (f : Effect) (r : OrderRecord) → Mild v r.resting f → SameOrder r (met f r)
-met_same v f r m = record { live = refl; time = refl; order = refl; drawn = omega (arith, m.reserve); volume = m.volume }
+met_same : (v : ℕ) (f : Effect) (r : OrderRecord) → Mild v r.resting f → SameOrder r (met f r)
+met_same v f r m = record { time = refl; order = refl; drawn = omega (arith, m.reserve); volume = m.volume }
 
-pub same_one : (os : List OrderRecord) (i : ℕ) (o : OrderRecord) → i < length os → SameOrder (record_at os i) o → SameOrders os (set os i o)
-same_one os i o within new = record {
-  places = length-set os i o;
-  each = places os i o within (λ k x. SameOrder (record_at os k) x) new (λ k ne. same_order (record_at os k));
-}
+pub same_one : (os : Orders) (i : ℕ) (r : OrderRecord) → rests_at os i ≡ true → SameOrder (record_at os i) r → SameOrders os (set os i (Some r))
+same_one os i r on new =
+    let within = rests_within os i on in
+    record {
+      places = length-set os i (Some r);
+      rests = places os i (Some r) within (λ k x. is_some x ≡ rests_at os k) (sym on) (λ k ne. refl);
+      each = places os i (Some r) within (λ k x. SameOrder (record_at os k) (held x)) new (λ k ne. same_order (record_at os k));
+    }
 
-pub sound_same : (os os' : List OrderRecord) (e : Ends) → SameOrders os os' → Sound os e → Sound os' e
-sound_same os os' e p s = record {
-  small = subst (λ (n : ℕ). n ≤ 65536) (sym p.places) s.small;
-  order = s.order;
-  inside = subst (λ (n : ℕ). e.high ≤ n) (sym p.places) s.inside;
-  below = λ k h. (p.each k).live ∙ s.below k h;
-  above = λ k h. (p.each k).live ∙ s.above k h;
-  tight = λ k h. (p.each k).live ∙ s.tight k h;
-  sequenced = record {
-    distinct = λ j k lj lk uj uk t. s.sequenced.distinct j k (inside j lj) (inside k lk) (sym (p.each j).live ∙ uj) (sym (p.each k).live ∙ uk) (sym (p.each j).time ∙ t ∙ (p.each k).time);
-    older = λ k lk uk. subst (λ (t : ℕ). t < e.next) (sym (p.each k).time) (s.sequenced.older k (inside k lk) (sym (p.each k).live ∙ uk));
-  };
-}
-  where
-    inside : (k : ℕ) → k < length os' → k < length os
-    inside k h = subst (λ (n : ℕ). k < n) p.places h
-
-pub rest_same : (os os' : List OrderRecord) → SameOrders os os' → AllMayRest os → AllMayRest os'
-rest_same os os' p rest k u =
-    let m = rest k (sym (p.each k).live ∙ u) in
+pub rest_same : (os os' : Orders) → SameOrders os os' → AllMayRest os → AllMayRest os'
+rest_same os os' p rest k on =
+    let m = rest k (sym (p.rests k) ∙ on) in
     record {
       volume = omega (arith, m.volume, (p.each k).volume);
-      drawn = subst (λ (n : ℕ). n ≤ 10000000) (sym (p.each k).drawn) m.drawn;
+      drawn = omega (arith, m.drawn, (p.each k).drawn);
       display = λ i. subst (λ (o : Order). 0 < o.entry.display.shares) (sym (p.each k).order) (m.display (sym (ap (λ (o : Order). is_iceberg o.entry.kind) (p.each k).order) ∙ i));
     }
 
@@ -157,106 +139,118 @@ set_at [] k g x d e h = absurd (omega arith)
 set_at (y ∷ xs) zero g x d e h = ap (λ z. g z ∷ xs) (sym e)
 set_at (y ∷ xs) (suc k) g x d e h = ap (λ zs. y ∷ zs) (set_at xs k g x d e (omega arith))
 
-pub met_list : (os : List OrderRecord) (i : ℕ) (f : Effect) → Distinct os → i < length os → (record_at os i).live ≡ true
-    → resting_of (set os i (met f (record_at os i))) ≡ at_place (rank os i) (holding f.shown f.reserve) (resting_of os)
-met_list os i f distinct within live =
-    let p = at_rank os i within live distinct blank_record.resting in
-    changed os i within live distinct (met f (record_at os i)) live refl
+met_list : (os : Orders) (i : ℕ) (f : Effect) → Distinct os → rests_at os i ≡ true
+    → resting_of (set os i (Some (met f (record_at os i)))) ≡ at_place (rank os i) (holding f.shown f.reserve) (resting_of os)
+met_list os i f distinct on =
+    let within = rests_within os i on in
+    let p = at_rank os i within on distinct blank_record.resting in
+    changed os i within on distinct (met f (record_at os i)) refl
     ∙ set_at (resting_of os) (rank os i) (holding f.shown f.reserve) (record_at os i).resting blank_record.resting p.1 p.0
 
--- The run so far.
-
-pub record Going (rule : Rule) (view : View) (a : Order) (v : ℕ) (os₀ : List OrderRecord) (j₀ : Journal) (s₀ : List Report) (c₀ : ℕ) (left : ℕ) (os : List OrderRecord) (j : Journal) (s : List Report) (c : ℕ) : Type 0 where
+-- The run so far: from the table t₀ and the sheet s₀, with v left, to t and s, with so much left.
+pub record Going (rule : Rule) (view : View) (a : Order) (v : ℕ) (t₀ : OrderTable) (s₀ : EventSheet) (left : ℕ) (t : OrderTable) (s : EventSheet) : Type 0 where
   pub log : List Report
-  pub goes : run rule view a (on_table left os log) ≡ run rule view a (on_table v os₀ [])
-  pub adds : Adds s₀ c₀ s c (reverse log)
+  pub goes : run rule view a (on_table left t.places.now log) ≡ run rule view a (on_table v t₀.places.now [])
+  pub adds : Adds s₀ s (reverse log)
   pub less : left ≤ v
-  pub same : SameOrders os₀ os
-  pub few : c + 2 * in_play (on_table left os []) ≤ c₀ + 2 * in_play (on_table v os₀ [])
-  pub moved : Moved os₀ j₀ os j
+  pub same : SameOrders t₀.places.now t.places.now
+  pub few : s.count + 2 * in_play (on_table left t.places.now []) ≤ s₀.count + 2 * in_play (on_table v t₀.places.now [])
+  pub ends : t.ends ≡ t₀.ends
+  pub written : Written t₀ t
 
-pub going_start : (rule : Rule) (view : View) (a : Order) (v : ℕ) (os : List OrderRecord) (j : Journal) (s : List Report) (c : ℕ) → Going rule view a v os j s c v os j s c
-going_start rule view a v os j s c = record { log = []; goes = refl; adds = adds_none s c; less = omega arith; same = same_none os; few = omega arith; moved = moved_none os j }
+pub going_start : (rule : Rule) (view : View) (a : Order) (v : ℕ) (t : OrderTable) (s : EventSheet) → Going rule view a v t s v t s
+going_start rule view a v t s =
+    record { log = []; goes = refl; adds = adds_none s; less = omega arith; same = same_none t.places.now; few = omega arith; ends = refl; written = written_none t }
 
-module _ (rule : Rule) (view : View) (a : Order) (left : ℕ) (os : List OrderRecord) (b : Candidate) (some : 0 < left)
-    (leads : slice_of os (Some b) ≡ foremost (ahead rule view a) (slices view a (resting_of os))) where
+-- With so much left the active order meets b, which leads on the table t.
+module _ {rule : Rule} {view : View} {a : Order} {left : ℕ} (t : OrderTable) {b : Candidate} {asked : ℕ → Bool → Type 0} (some : 0 < left) (l : Leads rule view a t.places.now asked b)
+    (leads : slice_of t.places.now (Some b) ≡ foremost (ahead rule view a) (slices view a (resting_of t.places.now))) where
+  abbrev os : Orders
+  os = t.places.now
+
   abbrev this : Slice
   this = slice_on os b.place b.facts.hidden
 
   abbrev comes : Effect
-  comes = meeting view a left this
+  comes = comes_of view a left os b
+
+  abbrev after : Orders
+  after = set os b.place (Some (met comes (record_at os b.place)))
+
+  on : rests_at os b.place ≡ true
+  on = leads_rests rule view a os asked b l
 
   is_next : (log : List Report) → next_slice rule view a (on_table left os log) ≡ Some this
   unfolding next_slice
   is_next log = go (eqb left 0) refl
     where
-      go : (t : Bool) → eqb left 0 ≡ t → cond t None (foremost (ahead rule view a) (slices view a (resting_of os))) ≡ Some this
+      go : (z : Bool) → eqb left 0 ≡ z → cond z None (foremost (ahead rule view a) (slices view a (resting_of os))) ≡ Some this
       go true e = absurd (omega (arith, eqb-true left 0 e))
       go false e = sym leads
 
-  module _ (distinct : Distinct os) (live : (record_at os b.place).live ≡ true) where
-    abbrev after : List OrderRecord
-    after = set os b.place (met comes (record_at os b.place))
+  meets : (log : List Report) → meet view a (on_table left os log) this ≡ on_table comes.left after (comes.reports ++ log)
+  unfolding meet
+  meets log =
+      ap (λ (z : List RestingOrder). record { left = comes.left; others = z; log = comes.reports ++ log })
+      (sym (met_list os b.place comes t.sound.sequenced.distinct on))
 
-    meets : (log : List Report) → meet view a (on_table left os log) this ≡ on_table comes.left after (comes.reports ++ log)
-    unfolding meet
-    meets log = ap (λ (z : List RestingOrder). record { left = comes.left; others = z; log = comes.reports ++ log }) (sym (met_list os b.place comes distinct (live_inside os b.place live) live))
+  -- So much is left then, and the table is t'.
+  module _ (left' : Volume) (t' : OrderTable) (is : left' ≡ shares comes.left) (written : t'.places.now ≡ after) where
+    now : (log : List Report) → meet view a (on_table left os log) this ≡ on_table left'.shares t'.places.now (comes.reports ++ log)
+    now log = meets log ∙ (λ i. on_table (sym is i).shares (sym written i) (comes.reports ++ log))
 
-    shrinks : comes.left + sum_of volume_of (resting_of after) < left + sum_of volume_of (resting_of os)
+    -- All volume in play falls.
+    pub shrinks : left'.shares + sum_of volume_of (resting_of t'.places.now) < left + sum_of volume_of (resting_of os)
     shrinks =
         let (h, top) = chosen rule view a (on_table left os []) this (is_next []) in
-        subst (λ (z : Progress). z.left + sum_of volume_of z.others < left + sum_of volume_of (resting_of os)) (meets []) (falls rule view a (on_table left os []) h this top)
+        subst (λ (z : Progress). z.left + sum_of volume_of z.others < left + sum_of volume_of (resting_of os)) (now []) (falls rule view a (on_table left os []) h this top)
 
-    pub shrinks_to : (left' : Volume) (os' : List OrderRecord) → left' ≡ shares comes.left → os' ≡ after → left'.shares + sum_of volume_of (resting_of os') < left + sum_of volume_of (resting_of os)
-    shrinks_to left' os' e f = subst (λ (n : ℕ). n < left + sum_of volume_of (resting_of os)) (sym (λ i. (e i).shares + sum_of volume_of (resting_of (f i)))) shrinks
-
-    goes_on : (log : List Report) → run rule view a (on_table comes.left after (comes.reports ++ log)) ≡ run rule view a (on_table left os log)
-    goes_on log = ap (run rule view a) (sym (meets log)) ∙ sym (run_next rule view a (on_table left os log) this (is_next log))
-
-    pub going_on : (v : ℕ) (os₀ : List OrderRecord) (j₀ : Journal) (s₀ : List Report) (c₀ : ℕ) (j : Journal) (s : List Report) (c : ℕ) (os' : List OrderRecord) (j' : Journal) (s' : List Report) (c' : ℕ)
-        → os' ≡ after → Adds s c s' c' (reverse comes.reports) → Moved os j os' j'
-        → Going rule view a v os₀ j₀ s₀ c₀ left os j s c → Going rule view a v os₀ j₀ s₀ c₀ comes.left os' j' s' c'
-    going_on v os₀ j₀ s₀ c₀ j s c os' j' s' c' e ad mv g = record {
-      log = comes.reports ++ g.log;
-      goes = ap (λ (z : List OrderRecord). run rule view a (on_table comes.left z (comes.reports ++ g.log))) e ∙ goes_on g.log ∙ g.goes;
-      adds = subst (Adds s₀ c₀ s' c') (sym (reverse-append comes.reports g.log)) (adds_more s₀ c₀ s c s' c' (reverse g.log) (reverse comes.reports) g.adds ad);
-      less = omega (arith, g.less, (mild view a left this).left);
-      same = same_both os₀ os os' g.same (subst (SameOrders os) (sym e) (same_one os b.place (met comes (record_at os b.place)) (live_inside os b.place live) (met_same left comes (record_at os b.place) (mild view a left this))));
-      few =
-          let sh = shrinks in
-          let eq = ap (λ (z : List OrderRecord). sum_of volume_of (resting_of z)) e in
-          omega (arith, g.few, ad.counted, length-reverse comes.reports, (mild view a left this).few, sh, eq);
-      moved = moved_both os₀ os os' j₀ j j' (sym g.same.places) g.moved mv;
-    }
-
--- The end of a run.
-pub ends_used : (rule : Rule) (view : View) (a : Order) (left : ℕ) (os : List OrderRecord) (log : List Report) → left ≤ 0 → run rule view a (on_table left os log) ≡ on_table left os log
-unfolding next_slice
-ends_used rule view a left os log h = run_stop rule view a (on_table left os log) (go (eqb left 0) refl)
-  where
-    go : (t : Bool) → eqb left 0 ≡ t → cond t None (foremost (ahead rule view a) (slices view a (resting_of os))) ≡ None
-    go true e = refl
-    go false e = absurd (eqb-false left 0 e (omega arith))
-
-pub ends_none : (rule : Rule) (view : View) (a : Order) (left : ℕ) (os : List OrderRecord) (log : List Report) → None ≡ foremost (ahead rule view a) (slices view a (resting_of os)) → run rule view a (on_table left os log) ≡ on_table left os log
-unfolding next_slice
-ends_none rule view a left os log e = run_stop rule view a (on_table left os log) (go (eqb left 0))
-  where
-    go : (t : Bool) → cond t None (foremost (ahead rule view a) (slices view a (resting_of os))) ≡ None
-    go true = refl
-    go false = sym e
+    pub going_on : {v : ℕ} {t₀ : OrderTable} {s₀ s s' : EventSheet} → Going rule view a v t₀ s₀ left t s
+        → Adds s s' (reverse comes.reports) → t'.ends ≡ t.ends → Written t t' → Going rule view a v t₀ s₀ left'.shares t' s'
+    going_on {t₀ = t₀} g adds ends noted =
+        let mild = mild view a left this in
+        let here : SameOrders os t'.places.now = subst (SameOrders os) (sym written) (same_one os b.place (met comes (record_at os b.place)) on (met_same left comes (record_at os b.place) mild)) in
+        record {
+          log = comes.reports ++ g.log;
+          goes = ap (run rule view a) (sym (now g.log)) ∙ sym (run_next rule view a (on_table left os g.log) this (is_next g.log)) ∙ g.goes;
+          adds = adds_same (sym (reverse-append comes.reports g.log)) (adds_more g.adds adds);
+          less = let fewer = ap (λ (z : Volume). z.shares) is in omega (arith, g.less, mild.left, fewer);
+          same = same_both t₀.places.now os t'.places.now g.same here;
+          few = let falls = shrinks in omega (arith, g.few, adds.counted, length-reverse comes.reports, mild.few, falls);
+          ends = ends ∙ g.ends;
+          written = written_both t₀ t t' g.written noted;
+        }
 
 -- What a run that has come to its end leaves.
-module _ (rule : Rule) (view : View) (a : Order) (v : ℕ) (os₀ : List OrderRecord) (j₀ : Journal) (s₀ : List Report) (c₀ : ℕ) (left : ℕ) (os : List OrderRecord) (j : Journal) (s : List Report) (c : ℕ)
-    (g : Going rule view a v os₀ j₀ s₀ c₀ left os j s c) (end : run rule view a (on_table left os g.log) ≡ on_table left os g.log) where
-  whole : on_table left os g.log ≡ run rule view a (on_table v os₀ [])
-  whole = sym end ∙ g.goes
+pub record Ended (rule : Rule) (view : View) (a : Order) (v : ℕ) (t₀ : OrderTable) (s₀ : EventSheet) (n : ℕ) (t : OrderTable) (s : EventSheet) : Type 0 where
+  pub left : n ≡ (run rule view a (on_table v t₀.places.now [])).left
+  pub list : resting_of t.places.now ≡ (run rule view a (on_table v t₀.places.now [])).others
+  pub adds : Adds s₀ s (reverse (run rule view a (on_table v t₀.places.now [])).log)
 
-  pub end_left : left ≡ (run rule view a (on_table v os₀ [])).left
-  end_left = ap (λ (z : Progress). z.left) whole
+module _ {rule : Rule} {view : View} {a : Order} {v : ℕ} {t₀ : OrderTable} {s₀ : EventSheet} {n : ℕ} {t : OrderTable} {s : EventSheet} (g : Going rule view a v t₀ s₀ n t s) where
+  ended : next_slice rule view a (on_table n t.places.now g.log) ≡ None → Ended rule view a v t₀ s₀ n t s
+  ended none =
+      let whole : on_table n t.places.now g.log ≡ run rule view a (on_table v t₀.places.now []) = sym (run_stop rule view a (on_table n t.places.now g.log) none) ∙ g.goes in
+      record {
+        left = ap (λ (z : Progress). z.left) whole;
+        list = ap (λ (z : Progress). z.others) whole;
+        adds = adds_same (ap (λ (z : Progress). reverse z.log) whole) g.adds;
+      }
 
-  pub end_list : resting_of os ≡ (run rule view a (on_table v os₀ [])).others
-  end_list = ap (λ (z : Progress). z.others) whole
+  -- The active order is used up.
+  pub used_up : n ≤ 0 → Ended rule view a v t₀ s₀ n t s
+  unfolding next_slice
+  used_up h = ended (go (eqb n 0) refl)
+    where
+      go : (z : Bool) → eqb n 0 ≡ z → cond z None (foremost (ahead rule view a) (slices view a (resting_of t.places.now))) ≡ None
+      go true e = refl
+      go false e = absurd (eqb-false n 0 e (omega arith))
 
-  pub end_adds : Adds s₀ c₀ s c (reverse (run rule view a (on_table v os₀ [])).log)
-  end_adds = subst (λ (z : Progress). Adds s₀ c₀ s c (reverse z.log)) whole g.adds
+  -- No slice is left.
+  pub none_left : None ≡ foremost (ahead rule view a) (slices view a (resting_of t.places.now)) → Ended rule view a v t₀ s₀ n t s
+  unfolding next_slice
+  none_left e = ended (go (eqb n 0))
+    where
+      go : (z : Bool) → cond z None (foremost (ahead rule view a) (slices view a (resting_of t.places.now))) ≡ None
+      go true = refl
+      go false = sym e

@@ -1,2 +1,1 @@
-pub mod Effects
 pub mod Going

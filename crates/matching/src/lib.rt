@@ -3,88 +3,79 @@
 
 mod meetings;
 
-ghost use Rattle.std.specs.Prelude.{◌≡◌, ℕ, ◌+◌, ◌*◌, ◌^◌, ◌<◌, ◌≤◌, true, List, [], reverse, length, slice_set};
-ghost use Rattle.runs.specs.Meetings.{shares, meeting};
+ghost use Rattle.std.specs.Prelude.{◌≡◌, ℕ, ◌+◌, ◌*◌, ◌^◌, ◌<◌, ◌≤◌, true, [], reverse, Some, slice_set};
+ghost use Rattle.runs.specs.Meetings.{shares};
 ghost use Rattle.runs.specs.Runs.{in_play, run as run_of};
-ghost use Rattle.table.specs.Sequence.{record_at, resting_of};
-ghost use Rattle.table.specs.Noting.{Moved};
-ghost use Rattle.table.specs.Places.{Sound};
-ghost use Rattle.scan.specs.Leading.{slice_on};
+ghost use Rattle.table.specs.Sequence.{rests_at, record_at, resting_of};
+ghost use Rattle.table.specs.Writing.{Written};
 ghost use Rattle.sheet.specs.Sheets.{Adds};
-ghost use Rattle.matching.specs.Meetings.{met};
+ghost use Rattle.matching.specs.Meetings.{met, comes_of};
 ghost use Rattle.matching.specs.Running.{on_table, SameOrders, MayRest, AllMayRest};
 
-use meetings::meet_resting;
-use prices::View;
+use meetings::Meeting;
 use priority::Priority;
-use scan::{Candidate, foremost_slice};
+use scan::{ActiveOrder, Candidate};
 use sheet::EventSheet;
-use table::{Ends, Journal, OrderRecord, write};
-use types::{Order, Volume};
+use table::OrderTable;
+use types::Volume;
 
-/// The active order meets the slice.
-fn meet(
-    view: &View,
-    active: &Order,
-    left: &mut Volume,
-    orders: &mut [OrderRecord],
-    journal: &mut Journal,
-    sheet: &mut EventSheet<'_>,
+/// The active order, with so much left, meets the slice, and this is left of it.
+#[tactic(auto, using(crate::proofs::Going::anywhere, crate::proofs::Going::mild))]
+fn meet<R: Priority>(
+    active: &ActiveOrder<'_, R>,
+    left: Volume,
     slice: Candidate,
-)
-    requires small { length orders.old ≤ 65536 }
-    requires within { slice.place < length orders.old }
-    requires rests { MayRest (record_at orders.old slice.place) }
+    table: &mut OrderTable<'_>,
+    sheet: &mut EventSheet<'_>,
+) -> Volume
+    requires rests { rests_at table.old.places.now slice.place ≡ true }
+    requires fits { MayRest (record_at table.old.places.now slice.place) }
     requires room { sheet.old.count + 2 < 2 ^ 64 }
-    ensures left { left.new ≡ shares (meeting view.now active.now left.old.shares (slice_on orders.old slice.place slice.facts.hidden)).left }
-    ensures table { orders.new ≡ slice_set orders.old slice.place (met (meeting view.now active.now left.old.shares (slice_on orders.old slice.place slice.facts.hidden)) (record_at orders.old slice.place)) }
-    ensures adds { Adds sheet.old.reports.now sheet.old.count sheet.new.reports.now sheet.new.count (reverse (meeting view.now active.now left.old.shares (slice_on orders.old slice.place slice.facts.hidden)).reports) }
-    ensures moved { Moved orders.old journal.old orders.new journal.new }
-    ensures lent { sheet.new.reports.ghost_name ≡ sheet.old.reports.ghost_name }
+    ensures left { result ≡ shares (comes_of active.now.view.now active.now.order.now left.shares table.old.places.now slice).left }
+    ensures table { table.new.places.now ≡ slice_set table.old.places.now slice.place (Some (met (comes_of active.now.view.now active.now.order.now left.shares table.old.places.now slice) (record_at table.old.places.now slice.place))) }
+    ensures adds { Adds sheet.old sheet.new (reverse (comes_of active.now.view.now active.now.order.now left.shares table.old.places.now slice).reports) }
+    ensures ends { table.new.ends ≡ table.old.ends }
+    ensures written { Written table.old table.new }
 {
-    let mut order = orders[slice.place];
-    let reserve = order.resting.reserve.shares;
-    meet_resting(
-        view,
-        active,
+    let mut order = table.record_at(slice.place);
+    let mut meeting = Meeting {
+        view: active.view,
+        active: active.order,
         left,
-        &mut order.resting,
-        slice.facts.hidden,
-        sheet,
-    );
-    order.drawn += reserve - order.resting.reserve.shares;
-    write(orders, journal, slice.place, order);
+        resting: order.resting,
+        hidden: slice.facts.hidden,
+    };
+    meeting.conclude(sheet);
+    order.drawn += order.resting.reserve.shares - meeting.resting.reserve.shares;
+    order.resting = meeting.resting;
+    table.replace(slice.place, order);
+    meeting.left
 }
 
 /// Runs the active order over the table, and answers what is left of it.
+#[tactic(auto, using(crate::proofs::Going::going_start))]
 pub fn run<R: Priority>(
-    rule: &R,
-    view: &View,
-    active: &Order,
+    active: &ActiveOrder<'_, R>,
     volume: Volume,
-    orders: &mut [OrderRecord],
-    journal: &mut Journal,
-    ends: Ends,
+    table: &mut OrderTable<'_>,
     sheet: &mut EventSheet<'_>,
 ) -> Volume
-    requires sound { Sound orders.old ends }
-    requires rest { AllMayRest orders.old }
-    requires room { sheet.old.count + 2 * in_play (on_table volume.shares orders.old []) + 2 < 2 ^ 64 }
-    ensures left { result ≡ shares (run_of (R.Priority.rule rule.now) view.now active.now (on_table volume.shares orders.old [])).left }
-    ensures list { resting_of orders.new ≡ (run_of (R.Priority.rule rule.now) view.now active.now (on_table volume.shares orders.old [])).others }
-    ensures adds { Adds sheet.old.reports.now sheet.old.count sheet.new.reports.now sheet.new.count (reverse (run_of (R.Priority.rule rule.now) view.now active.now (on_table volume.shares orders.old [])).log) }
+    requires rest { AllMayRest table.old.places.now }
+    requires room { sheet.old.count + 2 * in_play (on_table volume.shares table.old.places.now []) + 2 < 2 ^ 64 }
+    ensures left { result ≡ shares (run_of (R.Priority.rule active.now.rule.now) active.now.view.now active.now.order.now (on_table volume.shares table.old.places.now [])).left }
+    ensures list { resting_of table.new.places.now ≡ (run_of (R.Priority.rule active.now.rule.now) active.now.view.now active.now.order.now (on_table volume.shares table.old.places.now [])).others }
+    ensures adds { Adds sheet.old sheet.new (reverse (run_of (R.Priority.rule active.now.rule.now) active.now.view.now active.now.order.now (on_table volume.shares table.old.places.now [])).log) }
     ensures less { result.shares ≤ volume.shares }
-    ensures same { SameOrders orders.old orders.new }
-    ensures sound { Sound orders.new ends }
-    ensures rest { AllMayRest orders.new }
-    ensures few { sheet.new.count + 2 * in_play (on_table result.shares orders.new []) ≤ sheet.old.count + 2 * in_play (on_table volume.shares orders.old []) }
-    ensures moved { Moved orders.old journal.old orders.new journal.new }
-    ensures lent { sheet.new.reports.ghost_name ≡ sheet.old.reports.ghost_name }
+    ensures same { SameOrders table.old.places.now table.new.places.now }
+    ensures ends { table.new.ends ≡ table.old.ends }
+    ensures rest { AllMayRest table.new.places.now }
+    ensures few { sheet.new.count + 2 * in_play (on_table result.shares table.new.places.now []) ≤ sheet.old.count + 2 * in_play (on_table volume.shares table.old.places.now []) }
+    ensures written { Written table.old table.new }
 {
     let mut left = volume;
     'run: while left.shares > 0 {
-        match foremost_slice(rule, view, active, orders, ends.high) {
-            Some(slice) => meet(view, active, &mut left, orders, journal, sheet, slice),
+        match active.next_slice(table) {
+            Some(slice) => left = meet(active, left, slice, table, sheet),
             None => break 'run,
         }
     }
