@@ -105,11 +105,11 @@ impl<'a> Words<'a> {
     }
 
     fn trader(&mut self) -> Result<TraderId, LineFault> {
-        let word = self.named(Part::Trader)?;
-        let letters = <[u8; 6]>::try_from(word.as_bytes()).map_err(|_| Wrong::NotSixLetters.at(
-            Part::Trader,
-        ))?;
-        Ok(TraderId { letters })
+        let part = Part::Trader;
+        match self.named(part)?.as_bytes().try_into() {
+            Ok(letters) => Ok(TraderId { letters }),
+            Err(_) => Err(Wrong::NotSixLetters.at(part)),
+        }
     }
 
     fn entry(&mut self) -> Result<EnterFrame, LineFault> {

@@ -1,5 +1,5 @@
 //! What can be wrong with a line, and in which part of it.
-use std::fmt;
+use thiserror::Error;
 
 #[derive(Clone, Copy, Debug, PartialEq, Eq)]
 pub enum Part {
@@ -21,18 +21,26 @@ pub enum Part {
     Lst,
 }
 
-#[derive(Clone, Copy, Debug, PartialEq, Eq)]
+#[derive(Clone, Copy, Debug, PartialEq, Eq, Error)]
 pub enum Wrong {
+    #[error("missing")]
     Missing,
+    #[error("not a word or a code that it can be")]
     Unknown,
+    #[error("not six letters")]
     NotSixLetters,
+    #[error("not a number")]
     NotNumber,
+    #[error("not an amount in dollars and quarter cents")]
     NotDollars,
+    #[error("too large for its field")]
     TooLarge,
+    #[error("complete, but words are left on the line")]
     WordsLeft,
 }
 
-#[derive(Clone, Copy, Debug, PartialEq, Eq)]
+#[derive(Clone, Copy, Debug, PartialEq, Eq, Error)]
+#[error("{}: {wrong}", .part.name())]
 pub struct LineFault {
     pub part: Part,
     pub wrong: Wrong,
@@ -65,25 +73,5 @@ impl Part {
 impl Wrong {
     pub fn at(self, part: Part) -> LineFault {
         LineFault { part, wrong: self }
-    }
-}
-
-impl fmt::Display for Wrong {
-    fn fmt<W: fmt::Write>(&self, f: &mut fmt::Formatter<W>) -> fmt::Result {
-        match self {
-            Wrong::Missing => write!(f, "missing"),
-            Wrong::Unknown => write!(f, "not a word or a code that it can be"),
-            Wrong::NotSixLetters => write!(f, "not six letters"),
-            Wrong::NotNumber => write!(f, "not a number"),
-            Wrong::NotDollars => write!(f, "not an amount in dollars and quarter cents"),
-            Wrong::TooLarge => write!(f, "too large for its field"),
-            Wrong::WordsLeft => write!(f, "complete, but words are left on the line"),
-        }
-    }
-}
-
-impl fmt::Display for LineFault {
-    fn fmt<W: fmt::Write>(&self, f: &mut fmt::Formatter<W>) -> fmt::Result {
-        write!(f, "{}: {}", self.part.name(), self.wrong)
     }
 }

@@ -52,6 +52,7 @@ fn run(rt: &HostRuntime) -> anyhow::Result<()> {
                 refused += 1;
                 let refusal = fault.into();
                 writeln!(out, "{number} {}", RefusalLine { refusal })?;
+                // Behind a frame that is cut short there is none to read.
                 if fault == FieldFault::Frame(FrameFault::Short) {
                     break;
                 }
