@@ -12,6 +12,7 @@ use types::Lot;
 /// the event sheet, the trader register and the order register.
 #[derive(Clone, Copy, Debug, PartialEq, Eq)]
 pub struct SetUp {
+    // A number, so that a set-up with any other than the three can be refused.
     pub lot: u32,
     pub day_limit: u32,
     pub table: usize,

@@ -16,13 +16,8 @@ pub record Slice : Type 0 where
   pub resting : RestingOrder
   pub hidden : Bool
 
--- What is left of a resting order, reserve included.
-abbrev pub volume_of : RestingOrder → ℕ
-volume_of o = o.shown.shares + o.reserve.shares
-
--- A limit has all of its volume in the shown slice, a peg in the hidden one, and an iceberg in both.
-abbrev pub volume_in : RestingOrder → Bool → ℕ
-volume_in o hidden = cond hidden o.reserve.shares o.shown.shares
+-- What is left of a resting order, reserve included; and the volume of one of its slices: a limit has all of its volume in the shown one, a peg in the hidden one, and an iceberg in both.
+pub use Rattle.types.specs.Orders.{volume_of, volume_in}
 
 -- The volume of a slice.
 abbrev pub amount : Slice → ℕ

@@ -19,11 +19,10 @@ impl fmt::Display for TraderWords {
     ghost output = { λ w. Some (trader_words w.trader) };
 
     fn fmt<W: fmt::Write>(&self, f: &mut fmt::Formatter<W>) -> fmt::Result {
-        write!(f, "trader ")?;
-        for letter in self.trader.letters.as_slice() {
-            write!(f, "{}", char::from(*letter))?;
-        }
-        Ok(())
+        let [a, b, c, d, e, g] = self.trader.letters;
+        let (a, b, c) = (char::from(a), char::from(b), char::from(c));
+        let (d, e, g) = (char::from(d), char::from(e), char::from(g));
+        write!(f, "trader {a}{b}{c}{d}{e}{g}")
     }
 }
 
