@@ -106,10 +106,12 @@ impl<'a> Words<'a> {
 
     fn trader(&mut self) -> Result<TraderId, LineFault> {
         let part = Part::Trader;
-        match self.named(part)?.as_bytes().try_into() {
-            Ok(letters) => Ok(TraderId { letters }),
-            Err(_) => Err(Wrong::NotSixLetters.at(part)),
-        }
+        let word = self.named(part)?;
+        let letters = word
+            .as_bytes()
+            .try_into()
+            .map_err(|_| Wrong::NotSixLetters.at(part))?;
+        Ok(TraderId { letters })
     }
 
     fn entry(&mut self) -> Result<EnterFrame, LineFault> {

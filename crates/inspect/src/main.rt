@@ -41,7 +41,7 @@ fn run(rt: &HostRuntime) -> anyhow::Result<()> {
     let mut frames = FrameReader::new(input.as_slice());
     let mut count = 0u64;
     let mut refused = 0u64;
-    // Reads to the end of the frames; the number is a frame's, and is printed.
+    // The range numbers the lines, and the input ends the loop.
     for number in 1..u64::MAX {
         let Some(next) = next_call(&mut frames, lot).transpose() else {
             break;

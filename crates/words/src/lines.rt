@@ -10,6 +10,7 @@ use names::Worded;
 use std::fmt;
 use types::{Call, Quote, TraderId};
 
+// A trader's type is declared elsewhere, so what prints it is a wrapper.
 #[derive(Clone, Copy)]
 struct TraderWords {
     trader: TraderId,
@@ -58,6 +59,7 @@ impl fmt::Display for CallLine {
 
     fn fmt<W: fmt::Write>(&self, f: &mut fmt::Formatter<W>) -> fmt::Result {
         match self.call {
+            // In two writes, since the proof of one with all eleven parts did not close.
             Call::Enter(entry) => {
                 write!(
                     f,
