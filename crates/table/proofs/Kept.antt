@@ -1,5 +1,5 @@
 -- A write at one place keeps the timestamps apart and below the next one.
-use Rattle.std.proofs.Common.{◌≡◌, ℕ, zero, suc, ◌+◌, ◌<◌, ◌≤◌, true, false, ◌⊎◌, [], ◌∷◌, length, set, is_some, Some, None, Option, sym, refl, ap, ◌∙◌, subst, inl, inr, ⊎_elim, arith}
+use Rattle.std.proofs.Common.{◌≡◌, ℕ, zero, suc, ◌+◌, ◌<◌, ◌≤◌, true, ◌⊎◌, [], ◌∷◌, length, set, is_some, Some, None, Option, sym, refl, ap, ◌∙◌, subst, inl, inr, ⊎_elim, arith}
 use Rattle.std.proofs.lemmas.List.{get_or-set_same, get_or-set_other, length-set}
 use Rattle.std.proofs.lemmas.Bool.{cases_eq}
 use Rattle.table.specs.declared.records.OrderRecord.{OrderRecord}
@@ -21,34 +21,9 @@ module _ (os : Orders) (i : ℕ) (o : Option OrderRecord) (within : i < length o
       (λ ne. subst (P k) (sym (get_or-set_other os i k o None ne)) (old k ne))
       (cases_eq k i)
 
-  long : (k : ℕ) → k < length (set os i o) → k < length os
-  long k h = omega (arith, length-set os i o, h)
-
-  -- No order is added, and no timestamp changes.
-  module _ (on : is_some o ≡ true → rests_at os i ≡ true) (same : is_some o ≡ true → (held o).time ≡ (record_at os i).time) where
-    rested : (k : ℕ) → rests_at (set os i o) k ≡ true → rests_at os k ≡ true
-    rested = places (λ k x. is_some x ≡ true → rests_at os k ≡ true) on (λ k _ h. h)
-
-    time : (k : ℕ) → rests_at (set os i o) k ≡ true → (record_at (set os i o) k).time ≡ (record_at os k).time
-    time = places (λ k x. is_some x ≡ true → (held x).time ≡ (record_at os k).time) same (λ k _ _. refl)
-
-    sequenced_less : (next : ℕ) → Sequenced next os → Sequenced next (set os i o)
-    sequenced_less next s =
-        record {
-          distinct = λ j k lj lk uj uk e. s.distinct j k (long j lj) (long k lk) (rested j uj) (rested k uk) (sym (time j uj) ∙ e ∙ time k uk);
-          older = λ k lk uk. omega (arith, s.older k (long k lk) (rested k uk), time k uk);
-        }
-
--- Set free: the rest is as it was.
-pub sequenced_gone : (os : Orders) (i : ℕ) → i < length os → (next : ℕ) → Sequenced next os → Sequenced next (set os i None)
-sequenced_gone os i within = sequenced_less os i None within (λ e. cc) (λ e. cc)
-
 module _ (os : Orders) (i : ℕ) (o : OrderRecord) (within : i < length os) where
   -- Changed in place: the timestamps and the ranks stay.
   module _ (on : rests_at os i ≡ true) (same : o.time ≡ (record_at os i).time) where
-    pub sequenced_same : (next : ℕ) → Sequenced next os → Sequenced next (set os i (Some o))
-    sequenced_same = sequenced_less os i (Some o) within (λ _. on) (λ _. same)
-
     pub time_before : (k : ℕ) → (record_at (set os i (Some o)) k).time ≡ (record_at os k).time
     time_before = places os i (Some o) within (λ k x. (held x).time ≡ (record_at os k).time) same (λ k _. refl)
 
@@ -64,9 +39,11 @@ module _ (os : Orders) (i : ℕ) (o : OrderRecord) (within : i < length os) wher
     same_as : (k : ℕ) → (k ≡ i → ⊥) → place_at (set os i (Some o)) k ≡ place_at os k
     same_as k ne = get_or-set_other os i k (Some o) None ne
 
+    long : (k : ℕ) → k < length (set os i (Some o)) → k < length os
+    long k h = omega (arith, length-set os i (Some o), h)
+
     pub sequenced_new : Sequenced (next + 1) (set os i (Some o))
     sequenced_new =
-        let long = long os i (Some o) within in
         record {
           older = λ k lk uk. ⊎_elim (λ p. omega (arith, p.1)) (λ p. omega (arith, p.1)) (which k (long k lk) uk);
           distinct = λ j k lj lk uj uk e.

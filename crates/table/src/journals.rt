@@ -1,5 +1,5 @@
 //! The journal of the places where the table was written to since its spare copy was brought up to date.
-ghost use Rattle.std.specs.Prelude.{◌<◌};
+ghost use Rattle.std.specs.Prelude.{◌≡◌, ◌<◌, [], IsSomeAnd};
 ghost use Rattle.table.specs.Noting.{Follows};
 
 use arrayvec::ArrayVec;
@@ -24,5 +24,13 @@ impl Journal {
             Some(noted) => noted.push(i as u16),
             None => {}
         }
+    }
+
+    /// Nothing is noted any more: for where table and spare are the same.
+    pub fn clear(&mut self)
+        ensures noted { IsSomeAnd self.new.noted (λ v. v.items ≡ []) }
+        ensures high { self.new.high ≡ self.old.high }
+    {
+        self.noted = Some(ArrayVec::new());
     }
 }

@@ -49,12 +49,8 @@ impl OrderTable<'_> {
         ensures written { Written self.old self.new }
     {
         let i = self.first_free()?;
-        write(
-            self.places,
-            self.journal,
-            i,
-            Some(OrderRecord::new(self.ends.next, resting)),
-        );
+        let entered = OrderRecord::new(self.ends.next, resting);
+        write(self.places, self.journal, i, Some(entered));
         self.ends = Ends {
             low: i + 1,
             high: self.ends.high.max(i + 1),

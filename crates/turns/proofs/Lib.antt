@@ -1,4 +1,3 @@
-pub mod Inserting
-pub mod Chosen
+pub mod Sorting
 pub mod Renewing
 pub mod Closing

@@ -1,21 +1,21 @@
 -- The orders whose turn it is go to the end, one after the other.
-use Rattle.std.proofs.Common.{◌≡◌, ℕ, zero, suc, ◌+◌, ◌<◌, ◌≤◌, Bool, true, false, cond, not, ◌&&◌, ltb, List, [], ◌∷◌, ◌++◌, map, length, get_or, take, drop, set, filter, sym, refl, ap, ◌∙◌, subst, ⊎_elim, append_assoc, append-nil, arith}
+use Rattle.std.proofs.Common.{◌≡◌, ℕ, zero, suc, ◌+◌, ◌<◌, ◌≤◌, Bool, true, false, cond, not, ◌&&◌, ltb, List, [], ◌∷◌, ◌++◌, map, length, get_or, drop, set, filter, is_some, Some, None, Option, sym, refl, ap, ◌∙◌, subst, ⊎_elim, append_assoc, append-nil, arith}
 use Rattle.std.specs.List.{remove}
-use Rattle.std.proofs.lemmas.List.{get_or-take, length-take-le, drop_more, map-append, get_or-set_same, get_or-set_other}
+use Rattle.std.proofs.lemmas.List.{drop_more, map-append, get_or-set_same, get_or-set_other}
 use Rattle.std.proofs.lemmas.List.Elements.{filter-append}
 use Rattle.std.proofs.lemmas.Bool.{lt-ltb, le-ltb, cond-true, cond-false, cases_eq}
 use Rattle.types.specs.declared.orders.RestingOrder.{RestingOrder}
 use Rattle.rules.specs.Requotes.{to_end}
 use Rattle.table.specs.declared.records.OrderRecord.{OrderRecord}
-use Rattle.table.specs.Sequence.{blank_record, record_at, stamped, in_sequence, resting_of, rank, Distinct, Older}
+use Rattle.table.specs.Sequence.{Orders, blank_record, place_at, rests_at, held, record_at, stamped, in_sequence, resting_of, rank, Distinct, Older}
 use Rattle.table.proofs.Turns.{Each, Climbs, climbs, each_live, live_from, renewed}
-use Rattle.table.proofs.Ranks.{at_rank}
+use Rattle.table.proofs.Ranks.{standing, at_rank}
 use Rattle.turns.specs.Turns.{records_at, passes, Turns, Rewritten}
-use Rattle.turns.proofs.Chosen.{order_of, each_at, kept_orders}
+use Rattle.turns.proofs.Sorting.{each_at, order_of, kept_orders}
 
 -- One record less.
 
-pub removed_out : (f : OrderRecord → Bool) (l : List OrderRecord) (k : ℕ) → k < length l → f (record_at l k) ≡ false → filter f (remove l k) ≡ filter f l
+pub removed_out : (f : OrderRecord → Bool) (l : List OrderRecord) (k : ℕ) → k < length l → f (standing l k) ≡ false → filter f (remove l k) ≡ filter f l
 removed_out f [] k lt out = absurd (omega arith)
 removed_out f (x ∷ l) zero lt out = sym (cond-false _ _ _ out)
 removed_out f (x ∷ l) (suc k) lt out = ap (λ m. cond (f x) (x ∷ m) m) (removed_out f l k (omega arith) out)
@@ -26,15 +26,15 @@ same_tail x y l m e = cc
 same_head : (x y : OrderRecord) (l m : List OrderRecord) → x ∷ l ≡ y ∷ m → x ≡ y
 same_head x y l m e = cc
 
-pub removed_first : (f : OrderRecord → Bool) (l : List OrderRecord) (k : ℕ) (rest : List OrderRecord) → k < length l → Climbs l → f (record_at l k) ≡ true
-    → filter f l ≡ record_at l k ∷ rest → filter f (remove l k) ≡ rest
+pub removed_first : (f : OrderRecord → Bool) (l : List OrderRecord) (k : ℕ) (rest : List OrderRecord) → k < length l → Climbs l → f (standing l k) ≡ true
+    → filter f l ≡ standing l k ∷ rest → filter f (remove l k) ≡ rest
 removed_first f [] k rest lt up in-it e = absurd (omega arith)
 removed_first f (x ∷ l) zero rest lt up in-it e = same_tail x x (filter f l) rest (sym (cond-true _ _ _ in-it) ∙ e)
 removed_first f (x ∷ l) (suc k) rest lt up in-it e =
     let w = filter f l in
     let v = filter f (remove l k) in
-    let r = record_at l k in
-    let later = each_at (λ y. x.time < y.time) l k up.0 (omega arith) in
+    let r = standing l k in
+    let later = each_at (λ y. x.time < y.time) l k blank_record up.0 (omega arith) in
     (elim (f x) as (λ t. cond t (x ∷ w) w ≡ r ∷ rest → cond t (x ∷ v) v ≡ rest) [
       | true ↦ λ h. absurd (omega (arith, later, ap (λ (y : OrderRecord). y.time) (same_head x r w rest h)))
       | false ↦ λ h. removed_first f l k rest (omega arith) up.1 in-it h
@@ -71,11 +71,11 @@ abbrev pub settled : (RestingOrder → Bool) → ℕ → OrderRecord → Bool
 settled test next r = not (still test next r)
 
 -- On the way from the table `start`: the orders at the places have yet to move.
-pub record Going (test : RestingOrder → Bool) (next : ℕ) (start os : List OrderRecord) (ps : List ℕ) : Type 0 where
+pub record Going (test : RestingOrder → Bool) (next : ℕ) (start os : Orders) (ps : List ℕ) : Type 0 where
   pub todo : records_at start ps ≡ filter (still test next) (in_sequence os)
   pub list : map order_of (filter (settled test next) (in_sequence os)) ++ map order_of (records_at start ps) ≡ to_end test (resting_of start)
 
-module _ (test : RestingOrder → Bool) (next : ℕ) (start : List OrderRecord) where
+module _ (test : RestingOrder → Bool) (next : ℕ) (start : Orders) where
   pub started : (ps : List ℕ) → Older next start → Turns test start ps → Going test next start start ps
   unfolding resting_of
   started ps older t =
@@ -89,9 +89,9 @@ module _ (test : RestingOrder → Bool) (next : ℕ) (start : List OrderRecord) 
             ∙ (λ j. kept_orders (λ o. not (test o)) s j ++ kept_orders test s j);
       }
 
-  module _ (os : List OrderRecord) (p : ℕ) (ps : List ℕ) (going : Going test next start os (p ∷ ps)) where
-    pub went : p < length os → (record_at os p).live ≡ true → Distinct os → record_at os p ≡ record_at start p
-        → (now : ℕ) → next ≤ now → Older now os → Going test next start (set os p (stamped now (record_at os p))) ps
+  module _ (os : Orders) (p : ℕ) (ps : List ℕ) (going : Going test next start os (p ∷ ps)) where
+    pub went : p < length os → rests_at os p ≡ true → Distinct os → record_at os p ≡ record_at start p
+        → (now : ℕ) → next ≤ now → Older now os → Going test next start (set os p (Some (stamped now (record_at os p)))) ps
     went within on apart same now late older =
         let f = still test next in
         let g = settled test next in
@@ -101,7 +101,7 @@ module _ (test : RestingOrder → Bool) (next : ℕ) (start : List OrderRecord) 
         let k = rank os p in
         let at = at_rank os apart p within on in
         let rest = records_at start ps in
-        let after : in_sequence (set os p o) ≡ remove s k ++ (o ∷ []) = renewed os p within on apart o on older in
+        let after : in_sequence (set os p (Some o)) ≡ remove s k ++ (o ∷ []) = renewed os p within on apart o older in
         let now_out : f o ≡ false = ap (λ b. b && test r.resting) (le-ltb now next late) in
         let first : filter f s ≡ r ∷ rest = sym going.todo ∙ ap (λ (x : OrderRecord). x ∷ rest) (sym same) in
         let was : f r ≡ true = first_passes f s r rest first in
@@ -118,61 +118,42 @@ module _ (test : RestingOrder → Bool) (next : ℕ) (start : List OrderRecord) 
               ∙ going.list;
         }
 
-  pub arrived : (os : List OrderRecord) → Going test next start os [] → resting_of os ≡ to_end test (resting_of start)
+  pub arrived : (os : Orders) → Going test next start os [] → resting_of os ≡ to_end test (resting_of start)
   unfolding resting_of
   arrived os going = ap (map order_of) (sym (none_kept (still test next) (in_sequence os) going.todo)) ∙ sym (append-nil _) ∙ going.list
 
--- The places differ.
-pub turns_apart : (test : RestingOrder → Bool) (os : List OrderRecord) (ts : List ℕ) (n : ℕ) → n ≤ length ts → Turns test os (take n ts) → (j k : ℕ) → j < k → k < n → get_or ts j 0 ≡ get_or ts k 0 → ⊥
-turns_apart test os ts n le t j k lt less e =
-    let at : (i : ℕ) → i < n → get_or (take n ts) i 0 ≡ get_or ts i 0 = λ i h. get_or-take n ts i 0 h in
-    let up = t.rising j k lt (omega (arith, length-take-le n ts le)) in
-    let same : (record_at os (get_or (take n ts) j 0)).time ≡ (record_at os (get_or (take n ts) k 0)).time = ap (λ (i : ℕ). (record_at os i).time) (at j (omega arith) ∙ e ∙ sym (at k less)) in
-    omega arith
+-- The place whose turn is the n-th is as it was, and is no earlier one.
+pub record Turn (start os : Orders) (ps : List ℕ) (n : ℕ) : Type 0 where
+  pub same : place_at os (get_or ps n 0) ≡ place_at start (get_or ps n 0)
+  pub rests : rests_at os (get_or ps n 0) ≡ true
+  pub next : drop n ps ≡ get_or ps n 0 ∷ drop (n + 1) ps
+  pub apart : (j : ℕ) → j < n → get_or ps j 0 ≡ get_or ps n 0 → ⊥
 
-module _ (f : ℕ → OrderRecord → OrderRecord) (ts : List ℕ) (start : List OrderRecord) where
-  pub rewritten_none : Rewritten f 0 ts start start
+module _ (f : ℕ → OrderRecord → Option OrderRecord) (ps : List ℕ) (start : Orders) where
+  pub rewritten_none : Rewritten f 0 ps start start
   rewritten_none = record { each = λ j lt. absurd (omega arith); others = λ k h. refl }
 
-  -- A place further on is as it was.
-  pub untouched : (os : List OrderRecord) (n : ℕ) → ((j : ℕ) → j < n → get_or ts j 0 ≡ get_or ts n 0 → ⊥) → Rewritten f n ts start os → record_at os (get_or ts n 0) ≡ record_at start (get_or ts n 0)
-  untouched os n apart h = h.others (get_or ts n 0) apart
+  module _ (os : Orders) (n : ℕ) (h : Rewritten f n ps start os) where
+    abbrev here : ℕ
+    here = get_or ps n 0
 
-  pub rewritten_more : (os : List OrderRecord) (n : ℕ) → ((j : ℕ) → j < n → get_or ts j 0 ≡ get_or ts n 0 → ⊥) → get_or ts n 0 < length os
-      → Rewritten f n ts start os → Rewritten f (n + 1) ts start (set os (get_or ts n 0) (f n (record_at os (get_or ts n 0))))
-  rewritten_more os n apart within h =
-      let p = get_or ts n 0 in
-      let o = f n (record_at os p) in
-      record {
-        each = λ j lt. ⊎_elim
-            (λ e. subst (λ (i : ℕ). record_at (set os p o) (get_or ts i 0) ≡ f i (record_at start (get_or ts i 0))) (sym e)
-            (get_or-set_same os p o blank_record within ∙ ap (f n) (untouched os n apart h)))
-            (λ ne. get_or-set_other os p (get_or ts j 0) o blank_record (apart j (omega (arith, ne))) ∙ h.each j (omega (arith, ne)))
-            (cases_eq j n);
-        others = λ k out. get_or-set_other os p k o blank_record (λ e. out n (omega arith) (sym e)) ∙ h.others k (λ j lt. out j (omega arith));
-      }
+    pub turn_at : (test : RestingOrder → Bool) → n < length ps → Turns test start ps → Turn start os ps n
+    turn_at test lt t = record { same = same; rests = ap is_some same ∙ t.rests n lt; next = drop_more ps n 0 lt; apart = apart }
+      where
+        apart : (j : ℕ) → j < n → get_or ps j 0 ≡ here → ⊥
+        apart j less e = let up = t.rising j n less lt in let e' = ap (λ (p : ℕ). (record_at start p).time) e in omega arith
 
--- The place whose turn is the k-th.
-pub record Turn (os : List OrderRecord) (ts : List ℕ) (n k : ℕ) : Type 0 where
-  pub within : get_or ts k 0 < length os
-  pub live : (record_at os (get_or ts k 0)).live ≡ true
-  pub next : drop k (take n ts) ≡ get_or ts k 0 ∷ drop (k + 1) (take n ts)
-  pub apart : (j : ℕ) → j < k → get_or ts j 0 ≡ get_or ts k 0 → ⊥
+        same : place_at os here ≡ place_at start here
+        same = h.others here apart
 
-pub turn_at : (test : RestingOrder → Bool) (os : List OrderRecord) (ts : List ℕ) (n k : ℕ) → n ≤ length ts → k < n → Turns test os (take n ts) → Turn os ts n k
-turn_at test os ts n k le lt t =
-    let long = length-take-le n ts le in
-    let at = get_or-take n ts k 0 lt in
-    let here : k < length (take n ts) = omega arith in
-    record {
-      within = subst (λ (p : ℕ). p < length os) at (t.within k here);
-      live = subst (λ (p : ℕ). (record_at os p).live ≡ true) at (t.live k here);
-      next = drop_more (take n ts) k 0 here ∙ ap (λ (p : ℕ). p ∷ drop (k + 1) (take n ts)) at;
-      apart = λ j less. turns_apart test os ts n le t j k less lt;
-    }
-
-pub no_turn_left : (ts : List ℕ) (n k : ℕ) → n ≤ k → drop k (take n ts) ≡ []
-no_turn_left ts n zero le = ap (λ (m : ℕ). take m ts) (let z : n ≡ 0 = omega arith in z)
-no_turn_left ts zero (suc k) le = refl
-no_turn_left [] (suc n) (suc k) le = refl
-no_turn_left (x ∷ ts) (suc n) (suc k) le = no_turn_left ts n k (omega arith)
+    pub rewritten_more : Turn start os ps n → here < length os → Rewritten f (n + 1) ps start (set os here (f n (record_at os here)))
+    rewritten_more t inside =
+        let x = f n (record_at os here) in
+        record {
+          each = λ j lt. ⊎_elim
+              (λ e. subst (λ (i : ℕ). place_at (set os here x) (get_or ps i 0) ≡ f i (record_at start (get_or ps i 0))) (sym e)
+              (get_or-set_same os here x None inside ∙ ap (λ y. f n (held y)) t.same))
+              (λ ne. get_or-set_other os here (get_or ps j 0) x None (t.apart j (omega (arith, ne))) ∙ h.each j (omega (arith, ne)))
+              (cases_eq j n);
+          others = λ k out. get_or-set_other os here k x None (λ e. out n (omega arith) (sym e)) ∙ h.others k (λ j lt. out j (omega arith));
+        }

@@ -1,12 +1,13 @@
 //! Which orders have a turn.
 ghost use Rattle.std.specs.Prelude.{◌≡◌, Bool, true};
 ghost use Rattle.types.specs.declared.orders.RestingOrder.{RestingOrder as Resting};
-ghost use Rattle.rules.specs.Requotes.{same_price as price_test, repriced as repriced_by};
+ghost use Rattle.rules.specs.Requotes.{repriced as repriced_by};
 
 use prices::{View, executable_price};
-use types::{Price, RestingOrder};
+use types::RestingOrder;
 
 /// A choice of resting orders. Its answer is its meaning.
+// A trait, since a contract names its meaning as a function of the order; a closure's answers are a relation, of which no `filter` can be said.
 pub trait Picks {
     ghost picked: { Self → Resting → Bool };
 
@@ -33,23 +34,12 @@ pub struct Repriced {
     pub new: View,
 }
 
-/// Both have no price, or both have the same.
-fn is_same_price(first: Option<Price>, second: Option<Price>) -> bool
-    ensures { result ≡ price_test first second }
-{
-    match (first, second) {
-        (None, None) => true,
-        (Some(first), Some(second)) => first.quarters == second.quarters,
-        _ => false,
-    }
-}
-
 impl Picks for Repriced {
     ghost picked = { λ p o. repriced_by p.old p.new o };
 
     fn picks(&self, order: &RestingOrder) -> bool {
         let old = executable_price(&self.old, &order.order.entry);
         let new = executable_price(&self.new, &order.order.entry);
-        !is_same_price(old, new)
+        old != new
     }
 }

@@ -2,6 +2,7 @@
 ghost use Rattle.std.specs.Prelude.{◌≡◌, ◌+◌, ◌≤◌, length};
 ghost use Rattle.wire.specs.Layouts.{be16, be32, Layouts};
 
+// The two number types share no trait with `from_be_bytes`, so each has a function of its own.
 pub(crate) fn half(b: &[u8], at: usize) -> u16
     requires { at + 2 ≤ length b.now }
     ensures { result ≡ be16 b.now at }

@@ -1,5 +1,5 @@
 -- The line that is printed of a call.
-use Rattle.std.specs.Prelude.{ℕ, List, ◌++◌, codes, decimal, slice_index}
+use Rattle.std.specs.Prelude.{ℕ, List, ◌++◌, codes, decimal, flat_map}
 use Rattle.std.proofs.Math.Utf8.{encode}
 use Rattle.types.specs.declared.calls.Call.{Call}
 use Rattle.types.specs.declared.calls.Call.TheVariants as call
@@ -10,10 +10,8 @@ use Rattle.names.specs.Names.{side_word, kind_word, term_word, mark_words, flag_
 use Rattle.words.specs.Words.{dollars, side_dollars}
 
 -- the word trader and the letters, each as a character
-unfoldable pub trader_words : TraderId → List ℕ
-trader_words t =
-    let l = t.letters in
-    codes "trader " ++ (encode (slice_index l 0) ++ (encode (slice_index l 1) ++ (encode (slice_index l 2) ++ (encode (slice_index l 3) ++ (encode (slice_index l 4) ++ encode (slice_index l 5))))))
+abbrev pub trader_words : TraderId → List ℕ
+trader_words t = codes "trader " ++ flat_map encode t.letters
 
 -- who sends what: the trader, the side, the kind, the term and the marks
 unfoldable pub order_words : Entry → List ℕ

@@ -1,84 +1,80 @@
-use Rattle.std.proofs.Common.{◌≡◌, ℕ, ◌+◌, ◌<◌, ◌≤◌, true, List, [], ◌∷◌, map, length, get_or, take, drop, sym, ap, ◌∙◌, subst, arith}
-use lib.ListN.{length-map}
-use Rattle.std.proofs.lemmas.List.{length-take-le}
+use Rattle.std.proofs.Common.{◌≡◌, ◌+◌, ◌^◌, ◌<◌, [], ◌∷◌, map, length, get_or, None, take, drop, sym, ap, ◌∙◌, subst, arith}
+use Rattle.std.proofs.lemmas.List.{drop_all, take_all, length-map, length-take-le}
 use Rattle.runs.specs.Slices.{volume_of}
-use Rattle.sheet.specs.Sheets.{Adds}
-use Rattle.sheet.proofs.Sheets.{adds_more}
 use Rattle.rules.specs.Calls.{cancelled_at_close}
+use Rattle.sheet.specs.Sheets.{Adds}
+use Rattle.sheet.proofs.Sheets.{adds_none, adds_more, adds_same}
 use Rattle.table.specs.declared.records.OrderRecord.{OrderRecord}
-use Rattle.table.specs.Sequence.{record_at, freed, in_sequence}
-use Rattle.table.proofs.Noting.{moved_both}
+use Rattle.table.specs.Sequence.{Orders, held, record_at, in_sequence}
+use Rattle.table.proofs.Writing.{written_none, written_both}
+use Rattle.table.proofs.Kept.{rests_within}
 use Rattle.turns.specs.Turns.{Rewritten}
-use Rattle.turns.proofs.Renewing.{Turn, turn_at, no_turn_left, rewritten_more, untouched}
-use Rattle.turns.proofs.Closing.{every, Left, Alike, close_report, one_left, none_left, no_orders, alike_more, all_freed, one_report, all_reports}
+use Rattle.turns.proofs.Renewing.{turn_at, rewritten_none, rewritten_more}
+use Rattle.turns.proofs.Closing.{every, every_kept, Left, close_report, one_left, no_orders, all_freed, one_report, all_reports}
 use Rattle.turns.proofs.cancelling.cancel_all.Goals as goal
+
+pub loop-place-init : goal.loop-place-init
+loop-place-init c =
+    let t = c.args.table.now in
+    let turns = c.collect-places.ensures.turns in
+    record {
+      times = omega arith;
+      written = written_none t;
+      rewritten = rewritten_none _ c.collect-places.result.now t.places.now;
+      left = turns.records ∙ every_kept (in_sequence t.places.now);
+      adds = adds_none c.args.sheet.now;
+    }
 
 pub cancel-requires : goal.cancel-requires
 cancel-requires c =
-    let start = c.args.orders.now in
-    let os = c.loop-k.orders in
-    let ts = c.collect-count.new.turns in
-    let n = c.collect-count.result in
-    let k = c.loop-k.k in
-    let p = get_or ts k 0 in
-    let i = c.loop-k.invariant in
-    let long : n ≤ length ts = omega (arith, c.requires.room, c.collect-count.ensures.count) in
-    let t : Turn start ts n k = turn_at every start ts n k long (omega arith) c.collect-count.ensures.turns in
-    let same : record_at os p ≡ record_at start p = untouched (λ _. freed) ts start os k t.apart i.3 in
-    let many : length (map (close_report start) (take k ts)) ≡ k = length-map (take k ts) (close_report start) ∙ length-take-le k ts (omega arith) in
-    let counted = i.6.counted in
+    let start = c.args.table.now.places.now in
+    let ps = c.collect-places.result.now in
+    let k = c.loop-place.place-index in
+    let p = get_or ps k 0 in
+    let inv = c.loop-place.invariant in
+    let turn = turn_at (λ _ _. None) ps start c.loop-place.table.places.now k inv.rewritten every (omega arith) c.collect-places.ensures.turns in
+    let many : length (map (close_report start) (take k ps)) ≡ k = length-map (take k ps) (close_report start) ∙ length-take-le k ps (omega arith) in
     record {
-      sound = i.0;
-      within = omega (arith, t.within, c.loop-k.auto);
-      rests = subst (λ (x : OrderRecord). x.live ≡ true) (sym same) t.live;
-      fits = subst (λ (x : OrderRecord). volume_of x.resting < 4294967296) (sym same) (c.requires.fits p t.live);
-      space = omega (arith, counted, many, c.requires.space, c.collect-count.ensures.count);
+      rests = turn.rests;
+      fits = subst (λ (r : OrderRecord). volume_of r.resting < 2 ^ 32) (sym (ap held turn.same)) (c.requires.fits p (c.collect-places.ensures.turns.rests k (omega arith)));
+      space = omega (arith, inv.adds.counted, many, c.requires.space, c.collect-places.ensures.count);
     }
 
-pub loop-k-preserved : goal.loop-k-preserved
-loop-k-preserved c =
-    let start = c.args.orders.now in
-    let os = c.loop-k.orders in
-    let ts = c.collect-count.new.turns in
-    let n = c.collect-count.result in
-    let k = c.loop-k.k in
-    let p = get_or ts k 0 in
-    let i = c.loop-k.invariant in
+pub loop-place-preserved : goal.loop-place-preserved
+loop-place-preserved c =
+    let start = c.args.table.now.places.now in
+    let t = c.loop-place.table in
+    let os = t.places.now in
+    let ps = c.collect-places.result.now in
+    let k = c.loop-place.place-index in
+    let p = get_or ps k 0 in
+    let inv = c.loop-place.invariant in
     let e = c.cancel.ensures in
-    let long : n ≤ length ts = omega (arith, c.requires.room, c.collect-count.ensures.count) in
-    let t : Turn start ts n k = turn_at every start ts n k long (omega arith) c.collect-count.ensures.turns in
-    let same : record_at os p ≡ record_at start p = untouched (λ _. freed) ts start os k t.apart i.3 in
-    let within : p < length os = omega (arith, t.within, c.loop-k.auto) in
-    let live : (record_at os p).live ≡ true = subst (λ (x : OrderRecord). x.live ≡ true) (sym same) t.live in
-    let here : k < length ts = omega arith in (
-      e.sound,
-      e.times ∙ i.1,
-      moved_both start os c.cancel.new.orders c.args.journal.now c.loop-k.journal c.cancel.new.journal (sym c.loop-k.auto.orders) i.2 e.moved,
-      subst (Rewritten (λ _. freed) (k + 1) ts start) (sym e.table) (rewritten_more (λ _. freed) ts start os k t.apart within i.3),
-      subst (λ (o : List OrderRecord). Left start o (drop (k + 1) (take n ts))) (sym e.table) (one_left start os p (drop (k + 1) (take n ts)) (subst (Left start os) t.next i.4) within live i.0.sequenced.distinct same),
-      subst (Alike start) (sym e.table) (alike_more start os p within i.5),
-      subst (Adds c.args.sheet.now.reports.now c.args.sheet.now.count c.cancel.new.sheet.reports.now c.cancel.new.sheet.count) (sym (one_report start ts k here))
-          (adds_more _ _ c.loop-k.sheet.reports.now c.loop-k.sheet.count _ _ (map (close_report start) (take k ts)) (close_report start p ∷ []) i.6
-          (subst (λ (x : OrderRecord). Adds c.loop-k.sheet.reports.now c.loop-k.sheet.count c.cancel.new.sheet.reports.now c.cancel.new.sheet.count (cancelled_at_close x.resting ∷ [])) same e.adds)),
-      e.lent ∙ i.7,
-    )
+    let turn = turn_at (λ _ _. None) ps start os k inv.rewritten every (omega arith) c.collect-places.ensures.turns in
+    let within = rests_within os p turn.rests in
+    let same : record_at os p ≡ record_at start p = ap held turn.same in
+    record {
+      times = e.times ∙ inv.times;
+      written = written_both c.args.table.now t c.cancel.new.table inv.written e.written;
+      rewritten = subst (Rewritten (λ _ _. None) (k + 1) ps start) (sym e.table) (rewritten_more (λ _ _. None) ps start os k inv.rewritten turn within);
+      left = subst (λ (o : Orders). Left start o (drop (k + 1) ps)) (sym e.table) (one_left start os p (drop (k + 1) ps) (subst (Left start os) turn.next inv.left) turn.rests t.sound.sequenced.distinct same);
+      adds =
+          adds_same (one_report start ps k (omega arith))
+          (adds_more inv.adds (subst (λ (r : OrderRecord). Adds c.loop-place.sheet c.cancel.new.sheet (cancelled_at_close r.resting ∷ [])) same e.adds));
+    }
 
 pub returns : goal.returns
 returns c =
-    let start = c.args.orders.now in
-    let os = c.loop-k.orders in
-    let ts = c.collect-count.new.turns in
-    let n = c.collect-count.result in
-    let k = c.loop-k.k in
-    let i = c.loop-k.invariant in
-    let end : k ≡ n = omega arith in
-    let empty : in_sequence os ≡ [] = none_left start os (subst (Left start os) (no_turn_left ts n k (omega arith)) i.4) in
+    let start = c.args.table.now.places.now in
+    let os = c.loop-place.table.places.now in
+    let ps = c.collect-places.result.now in
+    let k = c.loop-place.place-index in
+    let inv = c.loop-place.invariant in
+    let empty : [] ≡ in_sequence os = subst (Left start os) (drop_all k ps (omega arith)) inv.left in
     record {
-      table = all_freed start os empty i.5;
+      table = all_freed os empty;
       list = no_orders os empty;
-      sound = i.0;
-      times = i.1;
-      moved = i.2;
-      adds = subst (Adds c.args.sheet.now.reports.now c.args.sheet.now.count c.loop-k.sheet.reports.now c.loop-k.sheet.count) (ap (λ (m : ℕ). map (close_report start) (take m ts)) end ∙ all_reports start (take n ts) c.collect-count.ensures.turns) i.6;
-      lent = i.7;
+      times = inv.times;
+      written = inv.written;
+      adds = adds_same (ap (map (close_report start)) (take_all k ps (omega arith)) ∙ all_reports start ps c.collect-places.ensures.turns) inv.adds;
     }

@@ -1,19 +1,16 @@
-use Rattle.std.proofs.Common.{◌≡◌, map, take, drop}
+use Rattle.std.proofs.Common.{◌≡◌, map, None, take, drop}
 use Rattle.sheet.specs.Sheets.{Adds}
-use Rattle.table.specs.Sequence.{freed}
-use Rattle.table.specs.Noting.{Moved}
-use Rattle.table.specs.Places.{Sound}
+use Rattle.table.specs.Writing.{Written}
 use Rattle.turns.specs.Turns.{Rewritten}
-use Rattle.turns.proofs.Closing.{Left, Alike, close_report}
+use Rattle.turns.proofs.Closing.{Left, close_report}
 use Rattle.turns.proofs.cancelling.cancel_all.Given as goal
 
-abbrev pub invariant-loop-k : goal.invariant-loop-k
-invariant-loop-k l =
-    Sound l.orders l.ends
-    × (l.ends.next ≡ l.initial.ends.next)
-    × Moved l.initial.orders l.initial.journal l.orders l.journal
-    × Rewritten (λ _. freed) l.k l.turns l.initial.orders l.orders
-    × Left l.initial.orders l.orders (drop l.k (take l.count l.turns))
-    × Alike l.initial.orders l.orders
-    × Adds l.initial.sheet.reports.now l.initial.sheet.count l.sheet.reports.now l.sheet.count (map (close_report l.initial.orders) (take l.k l.turns))
-    × (l.sheet.reports.ghost_name ≡ l.initial.sheet.reports.ghost_name)
+abbrev pub invariant-loop-place : goal.invariant-loop-place
+invariant-loop-place l =
+    record {
+      times : l.table.ends.next ≡ l.initial.table.ends.next;
+      written : Written l.initial.table l.table;
+      rewritten : Rewritten (λ _ _. None) l.place-index l.places l.initial.table.places.now l.table.places.now;
+      left : Left l.initial.table.places.now l.table.places.now (drop l.place-index l.places);
+      adds : Adds l.initial.sheet l.sheet (map (close_report l.initial.table.places.now) (take l.place-index l.places));
+    }

@@ -7,18 +7,13 @@ use Rattle.table.specs.Sequence.{record_at}
 use Rattle.turns.proofs.Closing.{by_number}
 use Rattle.turns.proofs.cancelling.cancel_one.Goals as goal
 
-pub returns : goal.returns
-returns c =
-    let os = c.args.orders.now in
-    let p = c.args.place in
-    let e = c.cancel.ensures in
-    let one = by_number os p c.requires.within c.requires.rests c.requires.sound.sequenced.distinct c.requires.numbers in
-    record {
-      table = e.table;
-      list = e.list ∙ one.0;
-      sound = e.sound;
-      times = e.times;
-      moved = e.moved;
-      adds = subst (λ (v : ℕ). Adds c.args.sheet.now.reports.now c.args.sheet.now.count c.cancel.new.sheet.reports.now c.cancel.new.sheet.count (cancelled (record_at os p).resting.order.number (shares v) Requested ∷ [])) (sym one.1) e.adds;
-      lent = e.lent;
-    }
+pub returns-clause-list : goal.returns-clause-list
+returns-clause-list c =
+    let t = c.args.table.now in
+    c.cancel.ensures.list ∙ (by_number t.places.now c.args.place c.requires.rests t.sound.sequenced.distinct c.requires.numbers).0
+
+pub returns-clause-adds : goal.returns-clause-adds
+returns-clause-adds c =
+    let t = c.args.table.now in
+    let one = by_number t.places.now c.args.place c.requires.rests t.sound.sequenced.distinct c.requires.numbers in
+    subst (λ (v : ℕ). Adds c.args.sheet.now c.cancel.new.sheet (cancelled (record_at t.places.now c.args.place).resting.order.number (shares v) Requested ∷ [])) (sym one.1) c.cancel.ensures.adds

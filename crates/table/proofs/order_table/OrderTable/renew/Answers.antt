@@ -1,7 +1,6 @@
-use Rattle.std.proofs.Common.{◌+◌, set, Some, sym, refl, ap, ◌∙◌, subst, arith}
-use Rattle.table.specs.Sequence.{stamped, resting_of}
+use Rattle.table.specs.Sequence.{stamped}
 use Rattle.table.proofs.Kept.{rests_within}
-use Rattle.table.proofs.Resting.{gone, changed, renewed}
+use Rattle.table.proofs.Resting.{renewed}
 use Rattle.table.proofs.order_table.OrderTable.renew.Goals as goal
 
 pub returns-clause-list : goal.returns-clause-list
