@@ -28,6 +28,7 @@ pub fn price(view: &View, resting: &RestingOrder) -> Price
 }
 
 /// An active order, with the rule and the view by which it meets slices.
+#[derive(Drop)]
 pub struct ActiveOrder<'a, R> {
     pub rule: &'a R,
     pub view: &'a View,
@@ -123,9 +124,10 @@ impl<R: Priority> ActiveOrder<'_, R> {
     {
         let mut best = None;
         for (i, place) in places[..high].iter().enumerate() {
-            if let Some(order) = place {
-                best = self.visit(order, i, best);
-            }
+            best = match place {
+                Some(order) => self.visit(order, i, best),
+                None => best,
+            };
         }
         best
     }

@@ -3,7 +3,7 @@ use Rattle.std.proofs.lemmas.List.{get_or-take}
 use Rattle.table.specs.Sequence.{place_at}
 use Rattle.scan.proofs.Leading.{free_step, visit_step, leading_foremost}
 use Rattle.scan.proofs.ActiveOrder.foremost_slice.Goals as goal
-use Rattle.scan.proofs.ActiveOrder.foremost_slice.Goals.{in-Some, in_default}
+use Rattle.scan.proofs.ActiveOrder.foremost_slice.Goals.{in-Some, in-None}
 
 pub loop-i-preserved : goal.loop-i-preserved
 loop-i-preserved g c =
@@ -13,7 +13,7 @@ loop-i-preserved g c =
     let at : place_at os i ≡ get_or (take c.args.high os) i None = sym (get_or-take c.args.high os i None (omega (arith, length-take c.args.high os))) in
     elim c.match-place.branch [
       | in-Some w ↦ rw (w.best-is, w.visit-best.ensures) (visit_step _ law _ _ _ c.requires.distinct i _ c.loop-i.invariant _ (at ∙ w.in-Some.is))
-      | in_default w ↦ rw w.best-is (free_step _ law _ _ _ c.requires.distinct i _ c.loop-i.invariant (at ∙ w.in_default.is))
+      | in-None w ↦ rw w.best-is (free_step _ law _ _ _ c.requires.distinct i _ c.loop-i.invariant (at ∙ w.in-None.is))
     ]
 
 pub returns-clause-foremost : goal.returns-clause-foremost
