@@ -1,7 +1,6 @@
 -- Those of a list that pass a test, where one element is changed or removed. Assumes nothing.
-use Rattle.std.proofs.Common.{◌≡◌, ℕ, zero, suc, ◌+◌, ◌<◌, ◌≤◌, Bool, true, false, cond, List, [], ◌∷◌, ◌++◌, length, get_or, set, filter, sym, refl, ap, ◌∙◌, arith}
+use Rattle.std.proofs.Common.{◌≡◌, ℕ, zero, suc, ◌<◌, Bool, true, false, cond, List, [], ◌∷◌, length, get_or, set, filter, sym, refl, ap, ◌∙◌, arith}
 use Rattle.std.specs.List.{remove}
-use Rattle.runs.specs.Lists.{sum_of}
 
 module _ {X : Type 0} where
   more : (p : X → Bool) (x : X) (xs ys : List X) → filter p xs ≡ filter p ys → filter p (x ∷ xs) ≡ filter p (x ∷ ys)
@@ -32,18 +31,6 @@ module _ {X : Type 0} where
       ∙ kept_first p xs k d (omega arith) e (λ m l. f (suc m) (omega arith))
       ∙ ap (λ (zs : List X). get_or xs k d ∷ zs) (sym (dropped p x (remove xs k) (f 0 (omega arith))))
 
-  pub kept_last : (p : X → Bool) (xs : List X) (y : X) → p y ≡ true → filter p (xs ++ (y ∷ [])) ≡ filter p xs ++ (y ∷ [])
-  kept_last p [] y e = passed p y [] e
-  kept_last p (x ∷ xs) y e = ap (λ (zs : List X). cond (p x) (x ∷ zs) zs) (kept_last p xs y e) ∙ either (p x)
-    where
-      either : (b : Bool) → cond b (x ∷ (filter p xs ++ (y ∷ []))) (filter p xs ++ (y ∷ [])) ≡ cond b (x ∷ filter p xs) (filter p xs) ++ (y ∷ [])
-      either true = refl
-      either false = refl
-
-  pub kept_not_last : (p : X → Bool) (xs : List X) (y : X) → p y ≡ false → filter p (xs ++ (y ∷ [])) ≡ filter p xs
-  kept_not_last p [] y e = dropped p y [] e
-  kept_not_last p (x ∷ xs) y e = more p x (xs ++ (y ∷ [])) xs (kept_not_last p xs y e)
-
   pub kept_all : (p : X → Bool) (xs : List X) (d : X) → ((k : ℕ) → k < length xs → p (get_or xs k d) ≡ true) → filter p xs ≡ xs
   kept_all p [] d f = refl
   kept_all p (x ∷ xs) d f = passed p x xs (f 0 (omega arith)) ∙ ap (λ (zs : List X). x ∷ zs) (kept_all p xs d (λ k h. f (suc k) (omega arith)))
@@ -51,17 +38,3 @@ module _ {X : Type 0} where
   pub kept_none : (p : X → Bool) (xs : List X) (d : X) → ((k : ℕ) → k < length xs → p (get_or xs k d) ≡ false) → filter p xs ≡ []
   kept_none p [] d f = refl
   kept_none p (x ∷ xs) d f = dropped p x xs (f 0 (omega arith)) ∙ kept_none p xs d (λ k h. f (suc k) (omega arith))
-
-  pub set_self : (xs : List X) (k : ℕ) (d : X) → set xs k (get_or xs k d) ≡ xs
-  set_self [] k d = refl
-  set_self (x ∷ xs) zero d = refl
-  set_self (x ∷ xs) (suc k) d = ap (λ (zs : List X). x ∷ zs) (set_self xs k d)
-
-  pub sum_set : (f : X → ℕ) (xs : List X) (k : ℕ) (d y : X) → k < length xs → sum_of f (set xs k y) + f (get_or xs k d) ≡ sum_of f xs + f y
-  sum_set f [] k d y h = absurd (omega arith)
-  sum_set f (x ∷ xs) zero d y h = omega arith
-  sum_set f (x ∷ xs) (suc k) d y h = omega (arith, sum_set f xs k d y (omega arith))
-
-  pub sum_few : (f : X → ℕ) (xs : List X) → ((x : X) → f x ≤ 1) → sum_of f xs ≤ length xs
-  sum_few f [] h = omega arith
-  sum_few f (x ∷ xs) h = omega (arith, h x, sum_few f xs h)

@@ -1,5 +1,5 @@
-use Rattle.tidying.specs.Tidying.{OldestSpent}
+use Rattle.tidying.proofs.Steps.{Longest}
 use Rattle.tidying.proofs.oldest_spent.Given as goal
 
 abbrev pub invariant-loop-i : goal.invariant-loop-i
-invariant-loop-i l = OldestSpent l.orders l.i l.oldest
+invariant-loop-i l = Longest l.table.places.now l.i l.oldest
