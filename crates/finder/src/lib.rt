@@ -1,4 +1,4 @@
-//! A finder keeps values by key in lent cells: one map for every kind of key.
+//! A finder keeps values by key in lent cells: one map for every kind of key. The library's maps would take memory of their own.
 //!
 //! A key is looked for from its home place on, round the end of the cells, up to the first free place.
 //! A removal draws the keys behind it nearer to their homes, so that the place is free again and no search grows longer by it.

@@ -29,6 +29,7 @@ fn follower<K: Key, V: Copy>(cells: &[Cell<K, V>], hole: usize) -> Option<usize>
 {
     let n = cells.len();
     let next = next_place(hole, n);
+    // The answer is a place, and the row leads round the end.
     for p in (next..n).chain(0..next) {
         match &cells[p] {
             None => return None,

@@ -6,7 +6,7 @@ use arrayvec::ArrayVec;
 
 /// `noted` are the places written to, with repeats, or nothing where there was no room for one.
 /// No place from `high` on was written to.
-#[derive(Drop)]
+#[derive(Clone, Drop)]
 pub struct Journal {
     pub noted: Option<ArrayVec<u16, 128>>,
     pub high: usize,
@@ -31,6 +31,9 @@ impl Journal {
         ensures noted { IsSomeAnd self.new.noted (λ v. v.items ≡ []) }
         ensures high { self.new.high ≡ self.old.high }
     {
-        self.noted = Some(ArrayVec::new());
+        match &mut self.noted {
+            Some(noted) => noted.clear(),
+            None => self.noted = Some(ArrayVec::new()),
+        }
     }
 }
