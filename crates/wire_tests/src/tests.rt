@@ -15,10 +15,8 @@ fn told(refusal: Refusal) -> (u8, u8, u32) {
 
 fn first_refusal(bytes: &[u8]) -> Option<(u8, u8, u32)> {
     let mut frames = FrameReader::new(bytes);
-    match next_call(&mut frames, Lot::Hundred) {
-        Err(fault) => Some(told(fault.into())),
-        Ok(_) => None,
-    }
+    let fault = next_call(&mut frames, Lot::Hundred).err()?;
+    Some(told(fault.into()))
 }
 
 #[test]
