@@ -1,14 +1,12 @@
 //! A resting order is run again from its place, which it keeps.
 #![tactic(auto)]
 
-ghost use Rattle.std.specs.Prelude.{◌≡◌, ◌+◌, ◌*◌, ◌^◌, ◌<◌, ◌≤◌, min, true, false, [], reverse, length};
-ghost use Rattle.checks.specs.Values.{is_iceberg};
+ghost use Rattle.std.specs.Prelude.{◌≡◌, ◌+◌, ◌*◌, ◌^◌, ◌<◌, ◌≤◌, true, false, [], reverse};
 ghost use Rattle.runs.specs.Slices.{volume_of};
 ghost use Rattle.runs.specs.Runs.{in_play, spent, laid_out};
 ghost use Rattle.rules.specs.Requotes.{run_at, put_back};
-ghost use Rattle.table.specs.Sequence.{record_at, resting_of};
-ghost use Rattle.table.specs.Noting.{Moved};
-ghost use Rattle.table.specs.Places.{Sound};
+ghost use Rattle.table.specs.Sequence.{rests_at, record_at, resting_of};
+ghost use Rattle.table.specs.Writing.{Written};
 ghost use Rattle.sheet.specs.Sheets.{Adds};
 ghost use Rattle.matching.specs.Running.{on_table, AllMayRest};
 ghost use Rattle.tidying.specs.Tidying.{Undrawn};
@@ -17,41 +15,26 @@ ghost use Rattle.reentry.specs.Spots.{spot, book_of, hollow};
 use matching::run;
 use prices::View;
 use priority::Priority;
+use scan::ActiveOrder;
 use sheet::EventSheet;
-use table::{Ends, Journal, OrderRecord, write};
+use table::{OrderRecord, OrderTable};
 use tidying::tidy;
 use types::{Order, OrderKind, RestingOrder, Volume};
-
-fn smaller(first: u32, second: u32) -> u32
-    ensures { result ≡ min first second }
-{
-    if first < second { first } else { second }
-}
 
 /// How an order with some volume comes to rest.
 pub fn lay_out(order: Order, volume: Volume) -> RestingOrder
     ensures { result ≡ laid_out order.entry.kind order volume.shares }
 {
-    match order.entry.kind {
-        OrderKind::Limit => RestingOrder {
-            order,
-            shown: volume,
-            reserve: Volume { shares: 0 },
-        },
-        OrderKind::Iceberg => {
-            let shown = smaller(order.entry.display.shares, volume.shares);
-            RestingOrder {
-                order,
-                shown: Volume { shares: shown },
-                reserve: Volume {
-                    shares: volume.shares - shown,
-                },
-            }
-        }
-        OrderKind::Peg => RestingOrder {
-            order,
-            shown: Volume { shares: 0 },
-            reserve: volume,
+    let shown = match order.entry.kind {
+        OrderKind::Limit => volume.shares,
+        OrderKind::Iceberg => order.entry.display.shares.min(volume.shares),
+        OrderKind::Peg => 0,
+    };
+    RestingOrder {
+        order,
+        shown: Volume { shares: shown },
+        reserve: Volume {
+            shares: volume.shares - shown,
         },
     }
 }
@@ -61,7 +44,7 @@ fn after_run(before: &RestingOrder, left: Volume) -> RestingOrder
     requires { volume_of before.now < 2 ^ 32 }
     ensures { result ≡ put_back before.now left.shares }
 {
-    if left.shares == before.shown.shares + before.reserve.shares {
+    if left == before.volume() {
         *before
     } else {
         lay_out(before.order, left)
@@ -72,56 +55,47 @@ fn after_run(before: &RestingOrder, left: Volume) -> RestingOrder
 fn hollowed(order: OrderRecord) -> OrderRecord
     ensures { result ≡ hollow order }
 {
-    let mut hollow = order;
-    hollow.resting.shown.shares = 0;
-    hollow.resting.reserve.shares = 0;
-    hollow
+    let none = Volume { shares: 0 };
+    OrderRecord {
+        resting: RestingOrder {
+            shown: none,
+            reserve: none,
+            ..order.resting
+        },
+        ..order
+    }
 }
 
 /// Runs the order at a place of the table, puts back what is left of it, and tidies the table.
 pub fn re_enter<R: Priority>(
     rule: &R,
     view: &View,
-    orders: &mut [OrderRecord],
-    journal: &mut Journal,
-    ends: &mut Ends,
+    table: &mut OrderTable<'_>,
     i: usize,
     sheet: &mut EventSheet<'_>,
 )
-    requires sound { Sound orders.old ends.old }
-    requires rest { AllMayRest orders.old }
-    requires undrawn { Undrawn orders.old }
-    requires within { i < length orders.old }
-    requires live { (record_at orders.old i).live ≡ true }
-    requires unspent { spent (record_at orders.old i).resting ≡ false }
-    requires times { ends.old.next + 65536 < 2 ^ 64 }
-    requires room { sheet.old.count + 2 * in_play (on_table 0 orders.old []) + 2 < 2 ^ 64 }
-    ensures list { resting_of orders.new ≡ (run_at (R.Priority.rule rule.now) view.now (spot orders.old i) (book_of orders.old)).resting }
-    ensures adds { Adds sheet.old.reports.now sheet.old.count sheet.new.reports.now sheet.new.count (reverse (run_at (R.Priority.rule rule.now) view.now (spot orders.old i) (book_of orders.old)).log) }
-    ensures undrawn { Undrawn orders.new }
-    ensures sound { Sound orders.new ends.new }
-    ensures rest { AllMayRest orders.new }
-    ensures times { ends.new.next ≤ ends.old.next + 65536 }
-    ensures moved { Moved orders.old journal.old orders.new journal.new }
-    ensures lent { sheet.new.reports.ghost_name ≡ sheet.old.reports.ghost_name }
+    requires rest { AllMayRest table.old.places.now }
+    requires undrawn { Undrawn table.old.places.now }
+    requires rests { rests_at table.old.places.now i ≡ true }
+    requires unspent { spent (record_at table.old.places.now i).resting ≡ false }
+    requires times { table.old.ends.next + 65536 < 2 ^ 64 }
+    requires room { sheet.old.count + 2 * in_play (on_table 0 table.old.places.now []) + 2 < 2 ^ 64 }
+    ensures list { resting_of table.new.places.now ≡ (run_at (R.Priority.rule rule.now) view.now (spot table.old.places.now i) (book_of table.old.places.now)).resting }
+    ensures adds { Adds sheet.old sheet.new (reverse (run_at (R.Priority.rule rule.now) view.now (spot table.old.places.now i) (book_of table.old.places.now)).log) }
+    ensures undrawn { Undrawn table.new.places.now }
+    ensures rest { AllMayRest table.new.places.now }
+    ensures times { table.new.ends.next ≤ table.old.ends.next + 65536 }
+    ensures written { Written table.old table.new }
 {
-    let before = orders[i];
-    let volume = Volume {
-        shares: before.resting.shown.shares + before.resting.reserve.shares,
-    };
-    write(orders, journal, i, hollowed(before));
-    let left = run(
+    let before = table.record_at(i);
+    table.replace(i, hollowed(before));
+    let active = ActiveOrder {
         rule,
         view,
-        &before.resting.order,
-        volume,
-        orders,
-        journal,
-        *ends,
-        sheet,
-    );
-    let mut after = before;
-    after.resting = after_run(&before.resting, left);
-    write(orders, journal, i, after);
-    tidy(orders, journal, ends);
+        order: &before.resting.order,
+    };
+    let left = run(&active, before.resting.volume(), table, sheet);
+    let resting = after_run(&before.resting, left);
+    table.replace(i, OrderRecord { resting, ..before });
+    tidy(table);
 }
