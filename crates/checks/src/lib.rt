@@ -25,7 +25,8 @@ fn are_letters(letters: [u8; 6]) -> bool
 
 /// In the range of prices, and a multiple of one step below 50 cents and of another from there on.
 fn is_on_step(p: u32, below: u32, above: u32) -> bool
-    requires { (0 < below) × (0 < above) }
+    requires below { 0 < below }
+    requires above { 0 < above }
     ensures { result ≡ (in_range p && p % cond (nat_lt p 200) below above == 0) }
 {
     matches!(p, 1..=4_000_000) && p % (if p < 200 { below } else { above }) == 0

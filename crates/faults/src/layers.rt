@@ -71,6 +71,7 @@ pub enum ChannelFault {
     Full,
 }
 
+// By hand and not derived, since contracts name the fault that `?` makes.
 impl From<FrameFault> for FieldFault {
     ghost from_gives = { λ e r. r ≡ in_frame e };
 

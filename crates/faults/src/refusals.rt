@@ -91,28 +91,16 @@ impl From<FrameFault> for Refusal {
     ghost from_gives = { λ fault refusal. refusal ≡ frame_refusal fault };
 
     fn from(fault: FrameFault) -> Refusal {
-        let layer = Layer::Frame;
-        match fault {
-            FrameFault::Short => Refusal {
-                reason: Reason::Short,
-                layer,
-                place: 0,
-            },
-            FrameFault::Version => Refusal {
-                reason: Reason::Version,
-                layer,
-                place: 2,
-            },
-            FrameFault::Kind => Refusal {
-                reason: Reason::Kind,
-                layer,
-                place: 3,
-            },
-            FrameFault::Length => Refusal {
-                reason: Reason::Length,
-                layer,
-                place: 0,
-            },
+        let (reason, place) = match fault {
+            FrameFault::Short => (Reason::Short, 0),
+            FrameFault::Version => (Reason::Version, 2),
+            FrameFault::Kind => (Reason::Kind, 3),
+            FrameFault::Length => (Reason::Length, 0),
+        };
+        Refusal {
+            reason,
+            layer: Layer::Frame,
+            place,
         }
     }
 }

@@ -98,6 +98,7 @@ fn settle_all(table: &mut OrderTable<'_>)
     ensures times { table.new.ends.next ≡ table.old.ends.next }
     ensures written { Written table.old table.new }
 {
+    // Each turn changes the table, so the places are gone through by number.
     for i in 0..table.ends.high {
         settle(table, i);
     }

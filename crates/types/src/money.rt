@@ -10,6 +10,7 @@ pub struct Price {
 }
 
 impl Price {
+    // Neither an option nor a number is of this crate, so these two are functions and no conversions.
     /// The number of a side of a quote: 0 where it is missing.
     pub fn or_zero(side: Option<Price>) -> u32
         ensures { result ≡ price_or_zero side }

@@ -80,6 +80,7 @@ impl Report {
     pub fn blank() -> Report
         ensures { result ≡ blank }
     {
+        // The zeros are said here, and the other reports are made of this one.
         Report {
             kind: ReportKind::Blank,
             order: 0,
