@@ -1,9 +1,11 @@
 -- The table lent out of the slice and come back.
-use Rattle.std.proofs.Common.{◌≡◌, ℕ, ◌+◌, ◌-◌, ◌++◌, length, take, drop, sym, ap, ◌∙◌, subst, arith, length-append, length-drop, length-take-le, take_at, drop_at}
+use Rattle.std.proofs.Common.{◌≡◌, ℕ, ◌+◌, ◌-◌, ◌++◌, length, map, take, drop, sym, ap, ◌∙◌, subst, arith, length-append, length-drop, length-take-le, take_at, drop_at}
+use Rattle.std.specs.Option.{option_map}
 use Rattle.table.specs.declared.journals.Journal.{Journal}
 use Rattle.table.specs.Sequence.{Orders}
 use Rattle.table.specs.Noting.{Agree, Moved}
 use Rattle.guard.specs.Keeping.{Kept}
+use Rattle.guard.specs.Renumbering.{ranked, renumbered}
 
 -- A table that went on with its writes noted, before the spare.
 pub kept_front : (n : ℕ) (all new : Orders) (j j' : Journal) → Kept n all j → length new ≡ length (take n all)
@@ -42,3 +44,9 @@ module _ (n : ℕ) (all new : Orders) (both : n + n ≡ length all) (same : leng
 
 pub part_lent : (n : ℕ) (all : Orders) → take (n - 0) all ≡ take n all
 part_lent n all = let whole : n - 0 ≡ n = omega arith in ap (λ v. take v all) whole
+
+-- The two halves taken apart, with the first renumbered.
+pub part_renumbered : (n : ℕ) (all table spare new : Orders) → n + n ≡ length all → table ≡ take n all → spare ≡ drop n all → drop n all ≡ take n all → length new ≡ length table
+    → new ≡ map (option_map (ranked spare)) table → take n (new ++ spare) ≡ renumbered (take n all)
+part_renumbered n all table spare new both front back same long is =
+    take_at new spare n (long ∙ ap length front ∙ length-take-le n all (omega arith)) ∙ is ∙ (λ j. map (option_map (ranked ((back ∙ same) j))) (front j))

@@ -11,7 +11,7 @@ ghost use Rattle.guard.specs.Keeping.{Kept};
 ghost use Rattle.guard.specs.Renumbering.{with_room};
 
 use copies::copy_changed;
-use renumbering::make_room;
+use renumbering::renumber;
 use table::{Ends, Journal, OrderRecord};
 
 /// A journal for a table and a spare of which nothing is known: the first call copies the whole.
@@ -99,7 +99,12 @@ impl<'a> Guard<'a> {
         ensures named { self.new.all.ghost_name ≡ self.old.all.ghost_name }
         ensures tied { self.new.journal.ghost_name ≡ self.old.journal.ghost_name }
     {
-        make_room(self.all, self.journal, self.n, ends);
+        if ends.next >= 9_223_372_036_854_775_808 {
+            let all = &mut *self.all;
+            let (table, spare) = all.split_at_mut(self.n);
+            renumber(table, spare, self.journal);
+            ends.next = self.n as u64;
+        }
     }
 
     /// The call is accepted: the table stays as it is, and the journal with it.

@@ -1,6 +1,6 @@
 -- What a write at one place does to the time list.
 use Rattle.std.proofs.Common.{◌≡◌, ℕ, suc, ◌<◌, true, false, List, [], ◌∷◌, ◌++◌, map, length, get_or, take, drop, set, Some, None, sym, ap, ◌∙◌}
-use lib.ListN.{length-map}
+use Rattle.std.proofs.lemmas.List.{length-map}
 use Rattle.std.specs.List.{remove}
 use Rattle.std.proofs.lemmas.List.{map-set, map-append, take-map, drop-map, get_or-map}
 use Rattle.types.specs.declared.orders.RestingOrder.{RestingOrder}

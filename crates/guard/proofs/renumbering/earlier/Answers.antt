@@ -9,4 +9,4 @@ pub returns : goal.returns
 returns c =
     let os = c.args.places.now in
     let t = c.args.time in
-    count_from_yields_List _ _ c.count.ensures.ran (YieldsList-from_filter _ (is_earlier t) (YieldsList-at c.filter.ensures.source (YieldsList-from_slice os c.iter.ensures.rest)) c.filter.ensures.closure (λ x r q k. search (rules, tests))) ∙ counted os t
+    count_from_yields_List c.filter.result c.count.result c.count.ensures.ran (YieldsList-from_filter _ (is_earlier t) (YieldsList-at c.filter.ensures.source (YieldsList-from_slice os c.iter.ensures.rest)) c.filter.ensures.closure (λ x r q k. search (rules, tests))) ∙ counted os t
