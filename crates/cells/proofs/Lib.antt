@@ -1,7 +1,6 @@
 pub mod Rings
-mod Turns
+pub mod Turns
 pub mod Lookups
-pub mod Counts
 mod Walks
 mod Free
 pub mod Props

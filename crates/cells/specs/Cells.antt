@@ -1,5 +1,6 @@
 -- Cells that hold keys with their values: what each key finds, and where a key may stand.
-use Rattle.std.specs.Prelude.{◌≡◌, ℕ, ◌+◌, ◌-◌, ◌*◌, ◌/◌, ◌%◌, ◌<◌, Bool, cond, List, [], ◌∷◌, length, Some, None, Option, ◌==◌, ◌≢◌, nat_le, slice_index_or}
+use Rattle.std.specs.Prelude.{◌≡◌, ℕ, ◌+◌, ◌-◌, ◌*◌, ◌/◌, ◌%◌, ◌<◌, Bool, cond, List, [], ◌∷◌, length, Some, None, Option, ◌==◌, ◌≢◌, nat_le, slice_index_or, count_by}
+use Rattle.std.specs.Option.{is_some}
 
 -- A number spread over 32 bits: the upper half of its product with 2 ^ 64 by the golden ratio.
 abbrev pub scattered : ℕ → ℕ
@@ -30,9 +31,7 @@ module _ {K V : Type 0} where
 
   -- how many cells are used
   abbrev pub taken : List (Cell K V) → ℕ
-  taken [] = 0
-  taken (None ∷ cells) = taken cells
-  taken (Some e ∷ cells) = 1 + taken cells
+  taken cells = count_by is_some cells
 
   -- the cell at a place; past the end every place is free
   abbrev pub at : List (Cell K V) → ℕ → Cell K V

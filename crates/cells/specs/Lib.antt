@@ -1,3 +1,4 @@
 pub mod Cells
 pub mod Searching
 pub mod Keys
+pub mod Letters

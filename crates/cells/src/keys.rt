@@ -1,7 +1,9 @@
 //! The keys of a book's registers: order numbers, and traders by their six letters.
 ghost use Rattle.cells.specs.Keys.{order_home, trader_home};
 ghost use Rattle.std.proofs.Common.{rules};
+ghost use Rattle.std.specs.Str.{bytes_eq};
 ghost use Rattle.std.proofs.lemmas.Slice.Eq.{bytes_eq-Decides};
+ghost use Rattle.cells.specs.Letters.{by_letters};
 
 use crate::key::{Key, scatter};
 use types::{OrderNumber, TraderId};
@@ -19,7 +21,7 @@ impl Key for OrderNumber {
 impl Key for TraderId {
     ghost number = { trader_home };
 
-    ghost decides = { Prim.search (rules, bytes_eq-Decides) };
+    ghost decides = { λ x y. by_letters (bytes_eq x.letters y.letters) x y (bytes_eq-Decides x.letters y.letters) };
 
     fn spread(&self) -> usize {
         let [a, b, c, d, e, f] = self.letters;

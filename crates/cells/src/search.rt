@@ -24,6 +24,7 @@ pub fn locate<K: Key, V: Copy>(cells: &[Cell<K, V>], key: &K) -> Result<usize, O
         return Err(None);
     }
     let home = key.spread() % n;
+    // The answer is a place, and the way to it leads round the end.
     for p in (home..n).chain(0..home) {
         match &cells[p] {
             None => return Err(Some(p)),

@@ -1,7 +1,7 @@
 -- What the frame reader makes of the frames.
 use Rattle.std.proofs.Common.{◌≡◌, ℕ, zero, suc, ◌+◌, ◌*◌, ◌<◌, ◌≤◌, List, [], ◌∷◌, ◌++◌, length, get_or, take, drop, Some, None, Ok, Err, Option, Result, sym, refl, ap, ◌∙◌, subst, append-nil, arith, length-append, length-drop, take-append-drop}
 use Rattle.std.proofs.ByRecursion.{All-take, All-drop}
-use Rattle.std.proofs.lemmas.List.{length-take-le}
+use Rattle.std.proofs.lemmas.List.{length-take-le, nil_from_length}
 use Rattle.faults.specs.declared.layers.FrameFault.{FrameFault}
 use Rattle.types.specs.declared.reports.Report.{Report}
 use Rattle.types.specs.declared.reports.ReportKind.{ReportKind}
@@ -44,10 +44,6 @@ answered frame (Ok (Some r)) h = refl
 answered frame (Ok None) h = absurd (h refl)
 answered frame (Err e) h = absurd (h refl)
 
-none_left : (front back : List ℕ) → length (front ++ back) ≡ length front → back ≡ []
-none_left front [] h = refl
-none_left front (x ∷ back) h = absurd (omega (arith, length-append front (x ∷ back)))
-
 -- the first frame, whatever follows it
 first_read : (b : List ℕ) → Bytes b → 21 ≤ length b → ((report_in (take 21 b)).kind ≡ Blank → ⊥)
     → read_report b ≡ record { answer = Ok (Some (report_in (take 21 b))); rest = drop 21 b }
@@ -58,7 +54,7 @@ first_read b a l h =
     let answer : (read_report frame).answer ≡ Ok (Some r) = answered frame (read_report frame).answer h in
     let fits : Fit report_layout (report_numbers r) = subst (Fit report_layout) (sym (read_numbers frame r answer)) (fields_fit report_layout frame 4 small) in
     let w : frame ≡ report_bytes r ++ (read_report frame).rest = report_written frame r small answer in
-    let e : (read_report frame).rest ≡ [] = none_left (report_bytes r) (read_report frame).rest (ap length (sym w) ∙ length-take-le 21 b l) in
+    let e : (read_report frame).rest ≡ [] = nil_from_length _ (omega (arith, ap length w, length-append (report_bytes r) (read_report frame).rest, length-take-le 21 b l)) in
     let f : frame ≡ report_bytes r = w ∙ ap (λ c. report_bytes r ++ c) e ∙ append-nil (report_bytes r) in
     let all : b ≡ report_bytes r ++ drop 21 b = sym (take-append-drop 21 b) ∙ ap (λ c. c ++ drop 21 b) f in
     ap read_report all ∙ report_reads r (drop 21 b) h fits

@@ -1,8 +1,7 @@
 -- Frames one after another in bytes.
 use Rattle.std.proofs.Common.{◌≡◌, ℕ, zero, suc, ◌+◌, ◌*◌, ◌≤◌, List, [], ◌∷◌, ◌++◌, length, take, drop, sym, ap, ◌∙◌, append-nil, suc-add, zero-add, arith, length-drop, take-append-drop, rules}
-use lib.Seq.{take-append-le, drop-append-le, take-append_seam}
 use borrow.Rule.Slice.PartMut.{put_mid, post_of}
-use Rattle.std.proofs.lemmas.List.{length-take-le, places}
+use Rattle.std.proofs.lemmas.List.{take-append-le, drop-append-le, take_at, length-take-le, places}
 use Rattle.channel.specs.Frames.{report_in, reports_in}
 
 -- the reports of a front of n frames, and of what stands behind it
@@ -28,9 +27,7 @@ module _ (n k : ℕ) (b frame : List ℕ) (room : n * 21 + 21 ≤ length b) (lon
       ∙ ap (λ c. reports_in (n + 0) c) (take-append-drop (n * 21) b) ∙ ap (λ m. reports_in m b) (omega arith)
 
   one_frame : reports_in 1 (frame ++ post_of (n * 21) k b) ≡ report_in frame ∷ []
-  one_frame =
-      let all : take 21 (frame ++ post_of (n * 21) k b) ≡ frame = ap (λ m. take m (frame ++ post_of (n * 21) k b)) (sym long) ∙ take-append_seam frame _ in
-      ap (λ c. report_in c ∷ []) all
+  one_frame = ap (λ c. report_in c ∷ []) (take_at frame _ 21 long)
 
   pub reports_more : reports_in (n + 1) (put_mid (n * 21) k b frame) ≡ reports_in n b ++ report_in frame ∷ []
   reports_more =

@@ -9,6 +9,7 @@ use types::Report;
 use wire::report_bytes;
 
 /// Report frames in lent bytes; its space is the bytes left by 21, rounded down, and its list is what its bytes read back as.
+// The bytes are lent memory, so a length stands beside them.
 #[derive(Drop)]
 pub struct ReportBytes<'a> {
     pub bytes: &'a mut [u8],
@@ -18,9 +19,7 @@ pub struct ReportBytes<'a> {
 impl<'a> ReportBytes<'a> {
     /// No frame yet.
     pub fn new(bytes: &'a mut [u8]) -> ReportBytes<'a>
-        ensures empty { result.frames ≡ 0 }
-        ensures same { result.bytes.now ≡ bytes.old }
-        ensures lent { result.bytes.ghost_name ≡ bytes.entry.ghost_name }
+        ensures { result ≡ record { bytes = bytes.entry; frames = 0 } }
     {
         ReportBytes { bytes, frames: 0 }
     }
@@ -47,8 +46,7 @@ impl Channel for ReportBytes<'_> {
             return Err(ChannelFault::Full);
         }
         let start = self.frames * 21;
-        let bytes = frame(report);
-        self.bytes[start..start + 21].copy_from_slice(&bytes);
+        self.bytes[start..start + 21].copy_from_slice(&frame(report));
         self.frames += 1;
         Ok(())
     }
@@ -68,8 +66,6 @@ pub fn write_reports(bytes: &mut [u8], reports: &[Report]) -> Result<usize, Chan
 }
 
 /// The list of a byte channel is what the frame reader makes of its bytes, where no report is a blank.
-pub fn frames_read_back() -> u8
+pub fn frames_read_back()
     ensures { ReadBack }
-{
-    0
-}
+{}

@@ -22,7 +22,7 @@ pub trait Channel {
 
     /// Appends a report; refused exactly where there is no space.
     fn put(&mut self, report: Report) -> Result<(), ChannelFault>
-        ensures sent { Sent (list self.old) (room self.old) (report ∷ []) result (list self.new) (room self.new) }
+        ensures sent { Sent list room self.old (report ∷ []) result self.new }
         ensures follows { follows self.old self.new };
 
     fn space(&self) -> usize
@@ -31,14 +31,14 @@ pub trait Channel {
 
 /// Appends all of the reports, or none where there is less space than reports.
 pub fn put_all<C: Channel>(channel: &mut C, reports: &[Report]) -> Result<(), ChannelFault>
-    ensures sent { Sent (C.list channel.old) (C.room channel.old) reports.now result (C.list channel.new) (C.room channel.new) }
+    ensures sent { Sent C.list C.room channel.old reports.now result channel.new }
     ensures follows { C.follows channel.old channel.new }
 {
     if channel.space() < reports.len() {
         return Err(ChannelFault::Full);
     }
-    for i in 0..reports.len() {
-        channel.put(reports[i])?;
+    for report in reports {
+        channel.put(*report)?;
     }
     Ok(())
 }

@@ -24,7 +24,7 @@ impl<P: Channel, Q: Channel> Channel for DropCopy<P, Q> {
     ghost lasting = { both_last (λ s. s.first) (λ s. s.copy) P.Channel.list Q.Channel.list P.Channel.lasting Q.Channel.lasting };
 
     fn put(&mut self, report: Report) -> Result<(), ChannelFault> {
-        if self.first.space() == 0 || self.copy.space() == 0 {
+        if self.space() == 0 {
             return Err(ChannelFault::Full);
         }
         self.first.put(report)?;
@@ -39,8 +39,8 @@ impl<P: Channel, Q: Channel> Channel for DropCopy<P, Q> {
 impl<P: Channel, Q: Channel> DropCopy<P, Q> {
     /// Appends all of the reports to both, or none to either where one has less space than reports.
     pub fn put_all(&mut self, reports: &[Report]) -> Result<(), ChannelFault>
-        ensures sent { Sent (P.Channel.list self.old.first) (min (P.Channel.room self.old.first) (Q.Channel.room self.old.copy)) reports.now result (P.Channel.list self.new.first) (min (P.Channel.room self.new.first) (Q.Channel.room self.new.copy)) }
-        ensures copied { Copied (Q.Channel.list self.old.copy) reports.now result (Q.Channel.list self.new.copy) }
+        ensures sent { Sent ⟦<DropCopy<P, Q> as Channel>⟧.list ⟦<DropCopy<P, Q> as Channel>⟧.room self.old reports.now result self.new }
+        ensures copied { Copied Q.Channel.list self.old.copy reports.now result self.new.copy }
     {
         put_all(self, reports)
     }

@@ -7,6 +7,7 @@ use faults::ChannelFault;
 use types::Report;
 
 /// Reports one after another in a lent slice; its space is the places left.
+// The list is lent memory, so a length stands beside it.
 #[derive(Drop)]
 pub struct ReportList<'a> {
     pub places: &'a mut [Report],
@@ -16,9 +17,7 @@ pub struct ReportList<'a> {
 impl<'a> ReportList<'a> {
     /// An empty list.
     pub fn new(places: &'a mut [Report]) -> ReportList<'a>
-        ensures empty { result.used ≡ 0 }
-        ensures same { result.places.now ≡ places.old }
-        ensures lent { result.places.ghost_name ≡ places.entry.ghost_name }
+        ensures { result ≡ record { places = places.entry; used = 0 } }
     {
         ReportList { places, used: 0 }
     }

@@ -1,5 +1,5 @@
 -- Calls and their frames, both ways.
-use Rattle.std.proofs.Common.{◌≡◌, ℕ, List, ◌++◌, Some, None, Ok, Err, Option, Result, sym, refl, ap, ◌∙◌, arith}
+use Rattle.std.proofs.Common.{◌≡◌, ℕ, List, ◌++◌, Some, None, Ok, Err, Option, Result, sym, refl, ap, ◌∙◌, arith, rules}
 use Rattle.types.specs.declared.money.Lot.{Lot}
 use Rattle.types.specs.declared.orders.Entry.{Entry}
 use Rattle.types.specs.declared.calls.Call.{Call}
@@ -10,7 +10,7 @@ use Rattle.faults.specs.declared.layers.CallField.TheVariants as at
 use Rattle.faults.specs.declared.layers.FieldFault.{FieldFault}
 use Rattle.faults.specs.declared.layers.FrameFault.{FrameFault}
 use Rattle.checks.specs.Checks.{Checked, trader_check, broker_check, check}
-use Rattle.codes.specs.Codes.{side_code, side_of, kind_code, kind_of, term_code, term_of, marks_code, marks_of, instruction_code, instruction_of, flag_code, flag_of}
+use Rattle.codes.specs.Codes.{side_code, side_of, kind_code, kind_of, term_code, term_of, marks_code, marks_of, instruction_code, instruction_of, flag_code}
 use Rattle.codes.specs.contracts.sides.SideCoded.TheImpl.Laws.{kept-law as side_kept, told-law as side_told}
 use Rattle.codes.specs.contracts.kinds.OrderKindCoded.TheImpl.Laws.{kept-law as kind_kept, told-law as kind_told}
 use Rattle.codes.specs.contracts.terms.TimeInForceCoded.TheImpl.Laws.{kept-law as term_kept, told-law as term_told}
@@ -71,78 +71,55 @@ reads lot c more f h =
 -- the first step passed, and the next goes on from it
 bound : {A B : Type 0} (r : Result A FieldFault) (next : A → Result B FieldFault) (y : B) → and_then r next ≡ Ok y → (x : A) × ((r ≡ Ok x) × (next x ≡ Ok y))
 bound (Ok x) next y e = (x, (refl, e))
-bound (Err f) next y e = absurd (let z : ◌≡◌ {A = ℕ} 0 1 = cc in omega arith)
+bound (Err f) next y e = search rules
 
-meant_was : {A : Type 0} (o : Option A) (f : CallField) (x : A) → meant o f ≡ Ok x → o ≡ Some x
-meant_was (Some y) f x e = cc
-meant_was None f x e = absurd (let z : ◌≡◌ {A = ℕ} 0 1 = cc in omega arith)
+-- a code that was decoded is that of its value, and the next step goes on from it
+told : {A B : Type 0} (meaning : ℕ → Option A) (code : A → ℕ) → ((n : ℕ) (x : A) → meaning n ≡ Some x → n ≡ code x)
+    → (n : ℕ) (f : CallField) (next : A → Result B FieldFault) (y : B) → and_then (meant (meaning n) f) next ≡ Ok y → (x : A) × ((n ≡ code x) × (next x ≡ Ok y))
+told {A} {B} meaning code law n f next y e = go (meaning n) refl e
+  where
+    go : (o : Option A) → meaning n ≡ o → and_then (meant o f) next ≡ Ok y → (x : A) × ((n ≡ code x) × (next x ≡ Ok y))
+    go (Some x) m e = (x, (law n x m, e))
+    go None m e = search rules
+
+same : {A : Type 0} (x y : A) → ◌≡◌ {A = Result A FieldFault} (Ok x) (Ok y) → x ≡ y
+same x y e = cc
 
 entry_was : (f : EnterFrame) (e : Entry) → decoded_entry f ≡ Ok e → encoded_entry e ≡ f
 entry_was f e h =
     let (t, (th, h₁)) = bound (trader_check f.trader) _ e h in
-    let (s, (sh, h₂)) = bound (meant (side_of f.side) at.Side) _ e h₁ in
-    let (k, (kh, h₃)) = bound (meant (kind_of f.kind) at.OrderKind) _ e h₂ in
-    let (d, (dh, h₄)) = bound (meant (term_of f.term) at.Term) _ e h₃ in
-    let (m, (mh, h₅)) = bound (meant (marks_of f.marks) at.Marks) _ e h₄ in
-    let (i, (ih, h₆)) = bound (meant (instruction_of f.instruction) at.Instruction) _ e h₅ in
-    let is : e ≡ record {
-      trader = f.trader;
-      side = s;
-      kind = k;
-      term = d;
-      marks = m;
-      limit = record { quarters = f.limit };
-      volume = record { shares = f.volume };
-      display = record { shares = f.display };
-      instruction = i;
-      key = record { number = f.key };
-    } = cc in
-    let a = side_told f.side s (meant_was (side_of f.side) at.Side s sh) in
-    let b = kind_told f.kind k (meant_was (kind_of f.kind) at.OrderKind k kh) in
-    let c = term_told f.term d (meant_was (term_of f.term) at.Term d dh) in
-    let g = marks_told f.marks m (meant_was (marks_of f.marks) at.Marks m mh) in
-    let j = instruction_told f.instruction i (meant_was (instruction_of f.instruction) at.Instruction i ih) in
-    ap encoded_entry is ∙ same f (side_code s) (kind_code k) (term_code d) (marks_code m) (instruction_code i) a b c g j
-  where
-    same : (f : EnterFrame) (s k d m i : ℕ) → f.side ≡ s → f.kind ≡ k → f.term ≡ d → f.marks ≡ m → f.instruction ≡ i
-        → record { trader = f.trader; side = s; kind = k; term = d; marks = m; limit = f.limit; volume = f.volume; display = f.display; instruction = i; key = f.key } ≡ f
-    same f s k d m i a b c g j = rw (← a, ← b, ← c, ← g, ← j)
+    let (s, (a, h₂)) = told side_of side_code side_told f.side at.Side _ e h₁ in
+    let (k, (b, h₃)) = told kind_of kind_code kind_told f.kind at.OrderKind _ e h₂ in
+    let (d, (c, h₄)) = told term_of term_code term_told f.term at.Term _ e h₃ in
+    let (m, (g, h₅)) = told marks_of marks_code marks_told f.marks at.Marks _ e h₄ in
+    let (i, (j, h₆)) = told instruction_of instruction_code instruction_told f.instruction at.Instruction _ e h₅ in
+    rw (← same _ e h₆, ← a, ← b, ← c, ← g, ← j)
 
 enrolment_was : (f : EnrolFrame) (e : Enrolment) → decoded_enrolment f ≡ Ok e
     → record { trader = e.trader; broker = e.broker; latency_sensitive = flag_code e.latency_sensitive } ≡ f
-enrolment_was f e h =
-    let (t, (th, h₁)) = bound (trader_check f.trader) _ e h in
-    let (b, (bh, h₂)) = bound (broker_check f.broker) _ e h₁ in
-    let (l, (lh, h₃)) = bound (meant (flag_of f.latency_sensitive) at.LatencySensitive) _ e h₂ in
-    let is : e ≡ record { trader = f.trader; broker = f.broker; latency_sensitive = l } = cc in
-    let a = flag_told f.latency_sensitive l (meant_was (flag_of f.latency_sensitive) at.LatencySensitive l lh) in
-    ap (λ (x : Enrolment). record { trader = x.trader; broker = x.broker; latency_sensitive = flag_code x.latency_sensitive }) is
-    ∙ ap (λ n. record { trader = f.trader; broker = f.broker; latency_sensitive = n }) (sym a)
+enrolment_was f e h = grind (arith, flag_told)
 
 was : (f : CallFrame) (c : Call) → decoded f ≡ Ok c → encoded c ≡ f
 was (frame.Enter f) c h =
-    let (e, (eh, h₁)) = bound (decoded_entry f) (λ e. Ok (call.Enter e)) c h in
-    let is : c ≡ call.Enter e = cc in
-    ap encoded is ∙ ap frame.Enter (entry_was f e eh)
-was (frame.Cancel x) c h = let is : c ≡ call.Cancel x = cc in ap encoded is
-was (frame.Quote q) c h = let is : c ≡ call.Quote q = cc in ap encoded is
-was frame.Halt c h = let is : c ≡ call.Halt = cc in ap encoded is
-was (frame.Resume q) c h = let is : c ≡ call.Resume q = cc in ap encoded is
-was frame.Close c h = let is : c ≡ call.Close = cc in ap encoded is
+    let (e, (eh, h₁)) = bound (decoded_entry f) _ c h in
+    ap encoded (sym (same _ c h₁)) ∙ ap frame.Enter (entry_was f e eh)
+was (frame.Cancel x) c h = search rules
+was (frame.Quote q) c h = search rules
+was frame.Halt c h = search rules
+was (frame.Resume q) c h = search rules
+was frame.Close c h = search rules
 was (frame.Enrol f) c h =
-    let (e, (eh, h₁)) = bound (decoded_enrolment f) (λ e. Ok (call.Enrol e)) c h in
-    let is : c ≡ call.Enrol e = cc in
-    ap encoded is ∙ ap frame.Enrol (enrolment_was f e eh)
+    let (e, (eh, h₁)) = bound (decoded_enrolment f) _ c h in
+    ap encoded (sym (same _ c h₁)) ∙ ap frame.Enrol (enrolment_was f e eh)
 
 -- an accepted call came as a frame, decoded
 frame_was : (lot : Lot) (a : Result (Option CallFrame) FrameFault) (c : Call) → taken lot a ≡ Ok (Some c) → (f : CallFrame) × ((a ≡ Ok (Some f)) × (decoded f ≡ Ok c))
-frame_was lot (Err e) c h = absurd (let z : ◌≡◌ {A = ℕ} 0 1 = cc in omega arith)
-frame_was lot (Ok None) c h = absurd (let z : ◌≡◌ {A = ℕ} 0 1 = cc in omega arith)
+frame_was lot (Err e) c h = search rules
+frame_was lot (Ok None) c h = search rules
 frame_was lot (Ok (Some f)) c h =
     let (d, (dh, h₁)) = bound (decoded f) (checked lot) (Some c) h in
     let (u, (uh, h₂)) = bound (check lot d) (λ _. Ok (Some d)) (Some c) h₁ in
-    let is : d ≡ c = cc in
-    (f, (refl, dh ∙ ap (λ (x : Call). Ok x) is))
+    (f, (refl, cc))
 
 pub accepted : (lot : Lot) (b : List ℕ) (c : Call) → Bytes b → (received lot b).answer ≡ Ok (Some c) → b ≡ written c ++ (received lot b).rest
 accepted lot b c a h =

@@ -1,36 +1,26 @@
 -- What a call that passed its checks is known to have.
-use Rattle.std.proofs.Common.{◌≡◌, ℕ, Bool, true, false, Some, None, Ok, Err, Option, refl, arith}
+use Rattle.std.proofs.Common.{◌≡◌, Some, None, Ok, Err, Option, refl, arith, rules}
 use Rattle.std.proofs.lemmas.Bool.Decides.{nat_tests}
 use Rattle.types.specs.declared.money.Price.{Price}
 use Rattle.types.specs.declared.quotes.Quote.{Quote}
 use Rattle.types.specs.Reports.{price_or_zero, price_unless_zero}
 use Rattle.faults.specs.declared.layers.CallField.{CallField}
 use Rattle.faults.specs.declared.layers.CallField.TheVariants as at
-use Rattle.faults.specs.declared.layers.FieldFault.{FieldFault}
-use Rattle.faults.specs.declared.layers.FieldFault.TheVariants as fault
-use Rattle.checks.specs.Values.{on_tick}
-use Rattle.checks.specs.Checks.{Checked, test, then, side_check, quote_check}
+use Rattle.checks.specs.Checks.{Checked, then, side_check, quote_check}
 use Rattle.wire.specs.Trips.{Present}
 
 -- both of two checks passed
 pub first : (a b : Checked) → then a b ≡ Ok tt → a ≡ Ok tt
 first (Ok tt) b e = refl
-first (Err f) b e = absurd (let z : ◌≡◌ {A = ℕ} 0 1 = cc in omega arith)
+first (Err f) b e = search rules
 
 pub second : (a b : Checked) → then a b ≡ Ok tt → b ≡ Ok tt
 second (Ok tt) b e = e
-second (Err f) b e = absurd (let z : ◌≡◌ {A = ℕ} 0 1 = cc in omega arith)
-
-passed : (t : Bool) (f : FieldFault) → test t f ≡ Ok tt → t ≡ true
-passed true f e = refl
-passed false f e = absurd (let z : ◌≡◌ {A = ℕ} 0 1 = cc in omega arith)
-
-some_price : (p : Price) → on_tick p.quarters ≡ true → price_unless_zero p.quarters ≡ Some p
-some_price p e = grind (arith, nat_tests)
+second (Err f) b e = search rules
 
 present : (s : Option Price) (f : CallField) → side_check s f ≡ Ok tt → price_unless_zero (price_or_zero s) ≡ s
 present None f e = refl
-present (Some p) f e = some_price p (passed (on_tick p.quarters) (fault.Price f) e)
+present (Some p) f e = grind (arith, nat_tests)
 
 pub quoted : (q : Quote) → quote_check q ≡ Ok tt → Present q
 quoted q e = (

@@ -54,6 +54,8 @@ fn decode_enrolment(frame: &EnrolFrame) -> Result<Enrolment, FieldFault>
     })
 }
 
+// Frames and calls are of other crates, so `decode` and `encode` are functions and no conversions.
+
 /// The call that a frame says, or the first of its fields that says nothing.
 pub fn decode(frame: &CallFrame) -> Result<Call, FieldFault>
     ensures { result ≡ decoded frame.now }

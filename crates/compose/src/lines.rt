@@ -1,72 +1,28 @@
 //! A line's words, one after another, to the numbers of a call's frame.
-use crate::parts::{LineFault, Part, Wrong, name_of};
-use crate::tables::{Worded, code_of};
+use crate::parts::{LineFault, Part, Wrong};
+use codes::Coded;
+use names::Worded;
 use std::str::SplitWhitespace;
-use types::{Broker, Cancellation, OrderNumber, Price, Quote, TraderId};
+use types::{
+    Broker, Cancellation, Marks, OrderKind, OrderNumber, Price, Quote, Side, TimeInForce, TraderId,
+};
 use wire::{CallFrame, EnrolFrame, EnterFrame};
 
-fn is_wrong<T>(part: Part, wrong: Wrong) -> Result<T, LineFault> {
-    Err(LineFault { part, wrong })
+/// The code of the value that the word names; all codes are below 8.
+fn code_of<T: Coded + Worded>(word: &str) -> Option<u8> {
+    (0..8u8).find(|code| T::from_code(*code).is_some_and(|value| value.word() == word))
 }
 
-fn next_word<'a>(words: &mut SplitWhitespace<'a>, part: Part) -> Result<&'a str, LineFault> {
-    words.next().ok_or(LineFault {
-        part,
-        wrong: Wrong::Missing,
-    })
-}
-
-/// Passes over the part's name.
-fn expect_name(words: &mut SplitWhitespace<'_>, part: Part) -> Result<(), LineFault> {
-    let name = next_word(words, part)?;
-    if name == name_of(part) {
-        Ok(())
-    } else {
-        is_wrong(part, Wrong::Missing)
-    }
-}
-
-fn whole_number(word: &str, most: u64, part: Part) -> Result<u64, LineFault> {
-    match word.parse::<u64>() {
-        Ok(number) => {
-            if number <= most {
-                Ok(number)
-            } else {
-                is_wrong(part, Wrong::TooLarge)
-            }
-        }
-        Err(_) => is_wrong(part, Wrong::NotNumber),
-    }
-}
-
-fn byte_number(word: &str, part: Part) -> Result<u8, LineFault> {
-    match u8::try_from(whole_number(word, 255, part)?) {
-        Ok(number) => Ok(number),
-        Err(_) => is_wrong(part, Wrong::TooLarge),
-    }
-}
-
-fn word_number(word: &str, part: Part) -> Result<u32, LineFault> {
-    match u32::try_from(whole_number(word, 4_294_967_295, part)?) {
-        Ok(number) => Ok(number),
-        Err(_) => is_wrong(part, Wrong::TooLarge),
-    }
-}
-
-/// The code of a word, or one told as a number, so that codes without a meaning can be written too.
-fn next_code<T: Worded>(words: &mut SplitWhitespace<'_>, part: Part) -> Result<u8, LineFault> {
-    let word = next_word(words, part)?;
-    match code_of::<T>(word) {
-        Some(code) => Ok(code),
-        None => match byte_number(word, part) {
-            Ok(code) => Ok(code),
-            Err(_) => is_wrong(part, Wrong::Unknown),
-        },
-    }
+fn number<T: TryFrom<u64>>(word: &str, part: Part) -> Result<T, LineFault>
+where
+    T::Error: Drop,
+{
+    let number = word.parse::<u64>().map_err(|_| Wrong::NotNumber.at(part))?;
+    T::try_from(number).map_err(|_| Wrong::TooLarge.at(part))
 }
 
 /// How many ten-thousandths the decimals behind a point are; there are one to four of them.
-fn decimals(text: &str) -> Option<u64> {
+fn decimals(text: &str) -> Option<u32> {
     let scale = match text.len() {
         1 => 1000,
         2 => 100,
@@ -74,148 +30,157 @@ fn decimals(text: &str) -> Option<u64> {
         4 => 1,
         _ => return None,
     };
-    match text.parse::<u16>() {
-        Ok(number) => Some(u64::from(number) * scale),
-        Err(_) => None,
-    }
+    let number = text.parse::<u16>().ok()?;
+    Some(u32::from(number) * scale)
 }
 
+/// How many ten-thousandths of a dollar the text says.
 fn dollars(text: &str) -> Option<u64> {
     let (whole, part) = match text.split_once('.') {
         Some((whole, part)) => (whole, decimals(part)?),
         None => (text, 0),
     };
-    match whole.parse::<u32>() {
-        Ok(whole) => Some((u64::from(whole) * 10_000).saturating_add(part)),
-        Err(_) => None,
-    }
+    let whole = whole.parse::<u32>().ok()?;
+    Some(u64::from(whole) * 10_000 + u64::from(part))
 }
 
+/// A price in quarter cents.
 fn price(word: &str, part: Part) -> Result<u32, LineFault> {
-    match dollars(word) {
-        Some(amount) if amount % 25 == 0 => match u32::try_from(amount / 25) {
-            Ok(quarters) => Ok(quarters),
-            Err(_) => is_wrong(part, Wrong::TooLarge),
-        },
-        _ => is_wrong(part, Wrong::NotDollars),
+    let amount = dollars(word)
+        .filter(|amount| *amount % 25 == 0)
+        .ok_or(Wrong::NotDollars.at(part))?;
+    u32::try_from(amount / 25).map_err(|_| Wrong::TooLarge.at(part))
+}
+
+/// The words of a line that are still to be read.
+#[derive(Drop)]
+struct Words<'a> {
+    left: SplitWhitespace<'a>,
+}
+
+impl<'a> Words<'a> {
+    fn next(&mut self, part: Part) -> Result<&'a str, LineFault> {
+        self.left.next().ok_or(Wrong::Missing.at(part))
     }
-}
 
-fn named_price(words: &mut SplitWhitespace<'_>, part: Part) -> Result<u32, LineFault> {
-    expect_name(words, part)?;
-    price(next_word(words, part)?, part)
-}
-
-fn named_number(words: &mut SplitWhitespace<'_>, part: Part) -> Result<u32, LineFault> {
-    expect_name(words, part)?;
-    word_number(next_word(words, part)?, part)
-}
-
-fn side_price(word: &str, part: Part) -> Result<Option<Price>, LineFault> {
-    if word == "-" {
-        return Ok(None);
+    /// Passes over the part's name.
+    fn name(&mut self, part: Part) -> Result<(), LineFault> {
+        if self.next(part)? == part.name() {
+            Ok(())
+        } else {
+            Err(Wrong::Missing.at(part))
+        }
     }
-    let quarters = price(word, part)?;
-    if quarters == 0 {
-        Ok(None)
-    } else {
-        Ok(Some(Price { quarters }))
+
+    /// The word behind the part's name.
+    fn named(&mut self, part: Part) -> Result<&'a str, LineFault> {
+        self.name(part)?;
+        self.next(part)
     }
-}
 
-fn named_side(words: &mut SplitWhitespace<'_>, part: Part) -> Result<Option<Price>, LineFault> {
-    expect_name(words, part)?;
-    side_price(next_word(words, part)?, part)
-}
-
-fn trader(words: &mut SplitWhitespace<'_>) -> Result<TraderId, LineFault> {
-    expect_name(words, Part::Trader)?;
-    let word = next_word(words, Part::Trader)?;
-    match word.as_bytes() {
-        [a, b, c, d, e, f] => Ok(TraderId {
-            letters: [*a, *b, *c, *d, *e, *f],
-        }),
-        _ => is_wrong(Part::Trader, Wrong::NotSixLetters),
+    fn number<T: TryFrom<u64>>(&mut self, part: Part) -> Result<T, LineFault>
+    where
+        T::Error: Drop,
+    {
+        number(self.named(part)?, part)
     }
-}
 
-fn entry(words: &mut SplitWhitespace<'_>) -> Result<EnterFrame, LineFault> {
-    let trader = trader(words)?;
-    let side = next_code::<types::Side>(words, Part::Side)?;
-    let kind = next_code::<types::OrderKind>(words, Part::Kind)?;
-    let term = next_code::<types::TimeInForce>(words, Part::Term)?;
-    expect_name(words, Part::Marks)?;
-    let marks = next_code::<types::Marks>(words, Part::Marks)?;
-    let limit = named_price(words, Part::Limit)?;
-    let volume = named_number(words, Part::Volume)?;
-    let display = named_number(words, Part::Display)?;
-    expect_name(words, Part::Instruction)?;
-    let instruction = byte_number(next_word(words, Part::Instruction)?, Part::Instruction)?;
-    let key = named_number(words, Part::Key)?;
-    Ok(EnterFrame {
-        trader,
-        side,
-        kind,
-        term,
-        marks,
-        limit,
-        volume,
-        display,
-        instruction,
-        key,
-    })
-}
-
-fn cancellation(words: &mut SplitWhitespace<'_>) -> Result<Cancellation, LineFault> {
-    let trader = trader(words)?;
-    let number = named_number(words, Part::Order)?;
-    Ok(Cancellation {
-        trader,
-        order: OrderNumber { number },
-    })
-}
-
-fn quote(words: &mut SplitWhitespace<'_>) -> Result<Quote, LineFault> {
-    let bid = named_side(words, Part::Bid)?;
-    let offer = named_side(words, Part::Offer)?;
-    Ok(Quote { bid, offer })
-}
-
-fn broker(words: &mut SplitWhitespace<'_>) -> Result<Broker, LineFault> {
-    let number = named_number(words, Part::Broker)?;
-    match u16::try_from(number) {
-        Ok(number) => Ok(Broker { number }),
-        Err(_) => is_wrong(Part::Broker, Wrong::TooLarge),
+    fn price(&mut self, part: Part) -> Result<u32, LineFault> {
+        price(self.named(part)?, part)
     }
-}
 
-fn enrolment(words: &mut SplitWhitespace<'_>) -> Result<EnrolFrame, LineFault> {
-    let trader = trader(words)?;
-    let broker = broker(words)?;
-    expect_name(words, Part::Lst)?;
-    let latency_sensitive = next_code::<bool>(words, Part::Lst)?;
-    Ok(EnrolFrame {
-        trader,
-        broker,
-        latency_sensitive,
-    })
+    fn side(&mut self, part: Part) -> Result<Option<Price>, LineFault> {
+        match self.named(part)? {
+            "-" => Ok(None),
+            word => price(word, part).map(Price::unless_zero),
+        }
+    }
+
+    /// The code of a word, or one told as a number, so that codes without a meaning can be written too.
+    fn code<T: Coded + Worded>(&mut self, part: Part) -> Result<u8, LineFault> {
+        let word = self.next(part)?;
+        code_of::<T>(word)
+            .or_else(|| word.parse::<u8>().ok())
+            .ok_or(Wrong::Unknown.at(part))
+    }
+
+    fn trader(&mut self) -> Result<TraderId, LineFault> {
+        let part = Part::Trader;
+        let word = self.named(part)?;
+        let letters = word
+            .as_bytes()
+            .try_into()
+            .map_err(|_| Wrong::NotSixLetters.at(part))?;
+        Ok(TraderId { letters })
+    }
+
+    fn entry(&mut self) -> Result<EnterFrame, LineFault> {
+        let trader = self.trader()?;
+        let side = self.code::<Side>(Part::Side)?;
+        let kind = self.code::<OrderKind>(Part::Kind)?;
+        let term = self.code::<TimeInForce>(Part::Term)?;
+        self.name(Part::Marks)?;
+        Ok(EnterFrame {
+            trader,
+            side,
+            kind,
+            term,
+            marks: self.code::<Marks>(Part::Marks)?,
+            limit: self.price(Part::Limit)?,
+            volume: self.number(Part::Volume)?,
+            display: self.number(Part::Display)?,
+            instruction: self.number(Part::Instruction)?,
+            key: self.number(Part::Key)?,
+        })
+    }
+
+    fn cancellation(&mut self) -> Result<Cancellation, LineFault> {
+        Ok(Cancellation {
+            trader: self.trader()?,
+            order: OrderNumber {
+                number: self.number(Part::Order)?,
+            },
+        })
+    }
+
+    fn quote(&mut self) -> Result<Quote, LineFault> {
+        Ok(Quote {
+            bid: self.side(Part::Bid)?,
+            offer: self.side(Part::Offer)?,
+        })
+    }
+
+    fn enrolment(&mut self) -> Result<EnrolFrame, LineFault> {
+        let trader = self.trader()?;
+        let broker = Broker {
+            number: self.number(Part::Broker)?,
+        };
+        self.name(Part::Lst)?;
+        Ok(EnrolFrame {
+            trader,
+            broker,
+            latency_sensitive: self.code::<bool>(Part::Lst)?,
+        })
+    }
 }
 
 /// The call that a line says.
 pub fn read_call(line: &str) -> Result<CallFrame, LineFault> {
-    let mut words = line.split_whitespace();
-    let call = match next_word(&mut words, Part::Call)? {
-        "enter" => CallFrame::Enter(entry(&mut words)?),
-        "cancel" => CallFrame::Cancel(cancellation(&mut words)?),
-        "quote" => CallFrame::Quote(quote(&mut words)?),
-        "halt" => CallFrame::Halt,
-        "resume" => CallFrame::Resume(quote(&mut words)?),
-        "close" => CallFrame::Close,
-        "enrol" => CallFrame::Enrol(enrolment(&mut words)?),
-        _ => return is_wrong(Part::Call, Wrong::Unknown),
+    let mut words = Words {
+        left: line.split_whitespace(),
     };
-    match words.next() {
+    let call = match words.next(Part::Call)? {
+        "enter" => CallFrame::Enter(words.entry()?),
+        "cancel" => CallFrame::Cancel(words.cancellation()?),
+        "quote" => CallFrame::Quote(words.quote()?),
+        "halt" => CallFrame::Halt,
+        "resume" => CallFrame::Resume(words.quote()?),
+        "close" => CallFrame::Close,
+        "enrol" => CallFrame::Enrol(words.enrolment()?),
+        _ => return Err(Wrong::Unknown.at(Part::Call)),
+    };
+    match words.left.next() {
         None => Ok(call),
-        Some(_) => is_wrong(Part::Call, Wrong::WordsLeft),
+        Some(_) => Err(Wrong::WordsLeft.at(Part::Call)),
     }
 }

@@ -8,53 +8,45 @@
 
 mod lines;
 mod parts;
-mod tables;
 
 use crate::lines::read_call;
-use anyhow::anyhow;
+use anyhow::ensure;
 use std::io::{BufRead, BufReader, Write};
 use std::process::ExitCode;
 use std::{env, io};
 use wire::write_call;
 
-fn refuse_words(rt: &HostRuntime) -> anyhow::Result<()> {
-    for _word in env::args(rt)?.skip(1) {
-        return Err(anyhow!("compose takes no words: it reads lines and writes frames"));
-    }
-    Ok(())
-}
-
-/// The frames of all lines, and how many lines are no calls.
-fn compose(rt: &HostRuntime, out: &mut Vec<u8>) -> anyhow::Result<u64> {
-    let mut number = 0u64;
-    let mut wrong = 0u64;
-    for line in BufReader::new(rt.alloc(), rt.stdin())?.lines(rt.alloc()) {
+/// The frames of all lines, if each is a call.
+fn compose(rt: &HostRuntime) -> anyhow::Result<Vec<u8>> {
+    let mut frames = Vec::new(rt.alloc());
+    let mut wrong = false;
+    let lines = BufReader::new(rt.alloc(), rt.stdin())?.lines(rt.alloc());
+    for (number, line) in (1..u64::MAX).zip(lines) {
         let line = line?;
         let text = line.as_str().trim();
-        number = number.saturating_add(1);
         if text.is_empty() || text.starts_with('#') {
             continue;
         }
         match read_call(text) {
-            Ok(call) => write_call(out, &call)?,
+            Ok(call) => write_call(&mut frames, &call)?,
             Err(fault) => {
-                wrong = wrong.saturating_add(1);
+                wrong = true;
                 eprintln!(rt; "compose: line {number}: {fault}")?;
             }
         }
     }
-    Ok(wrong)
+    ensure!(!wrong, "nothing written, since not every line is a call");
+    Ok(frames)
 }
 
 fn run(rt: &HostRuntime) -> anyhow::Result<()> {
-    refuse_words(rt)?;
-    let mut out = Vec::new(rt.alloc());
-    let wrong = compose(rt, &mut out)?;
-    if wrong > 0 {
-        return Err(anyhow!("nothing written, since not every line is a call"));
-    }
+    ensure!(
+        env::args(rt)?.nth(1).is_none(),
+        "compose takes no words: it reads lines and writes frames"
+    );
+    let frames = compose(rt)?;
     let mut stdout = rt.stdout();
-    stdout.write_all(out.as_slice())?;
+    stdout.write_all(frames.as_slice())?;
     stdout.flush()?;
     Ok(())
 }

@@ -1,2 +1,4 @@
-mod Writes
+mod Distances
+mod Rows
 mod Shifts
+mod Writes

@@ -1,12 +1,8 @@
 -- What the calls of a finder answer and leave.
-use Rattle.std.specs.Prelude.{◌≡◌, ℕ, ◌+◌, ◌<◌, Bool, cond, List, length, Some, None, Ok, Err, Option, Result, nat_lt}
+use Rattle.std.specs.Prelude.{◌≡◌, ℕ, ◌+◌, ◌<◌, ◌≢◌, Bool, List, length, Some, None, Ok, Err, Option, Result}
 use Rattle.std.specs.Map.{update}
-use Rattle.cells.specs.declared.cell.Cell.{Cell}
-use Rattle.cells.specs.declared.cell.Cell.TheVariants.{Free, Used}
-use Rattle.cells.specs.Cells.{lookup, taken, gap, home}
+use Rattle.cells.specs.Cells.{Cell, lookup, taken, at, gap, home}
 use Rattle.finder.specs.declared.finder.Full.{Full}
-use Rattle.finder.specs.declared.shift.Step.{Step}
-use Rattle.finder.specs.declared.shift.Step.TheVariants.{End, Stay, Move}
 
 -- 1 where a key found something
 abbrev pub found : {V : Type 0} → Option V → ℕ
@@ -27,7 +23,17 @@ module _ {K V : Type 0} where
       (old ≡ lookup equal cells k) × ((q : K) → lookup equal after q ≡ update equal (lookup equal cells) k None q)
       × (taken after + found old ≡ taken cells)
 
-  -- What a place means for a hole before it: the row of keys ends there; or its key moves into the hole, where its way leads over that; or it stays.
-  abbrev pub step : (K → ℕ) → ℕ → ℕ → ℕ → Cell K V → Step
-  step number n hole j Free = End
-  step number n hole j (Used k v) = cond (nat_lt (gap n (home number n k) hole) (gap n (home number n k) j)) Move Stay
+-- The way of the key k, where it stands at p, leads over the hole.
+abbrev pub LeadsOver : {K : Type 0} → (K → ℕ) → ℕ → ℕ → ℕ → K → Type 0
+LeadsOver number n hole p k = gap n (home number n k) hole < gap n (home number n k) p
+
+-- Behind the hole and before p every place is used.
+abbrev pub InRow : {K V : Type 0} → ℕ → List (Cell K V) → ℕ → Type 0
+InRow hole cells p = (x : ℕ) → x < length cells → x ≢ hole → gap (length cells) hole x < gap (length cells) hole p → at cells x ≢ None
+
+-- A place in the hole's row whose key's way leads over the hole; or the row has none.
+abbrev pub Follower : {K V : Type 0} → (K → ℕ) → ℕ → List (Cell K V) → Option ℕ → Type 0
+Follower {K} {V} number hole cells (Some p) =
+    (p < length cells) × InRow hole cells p × (k : K) × (v : V) × (at cells p ≡ Some (k, v)) × LeadsOver number (length cells) hole p k
+Follower {K} {V} number hole cells None =
+    (p : ℕ) (k : K) (v : V) → InRow hole cells p → at cells p ≡ Some (k, v) → LeadsOver number (length cells) hole p k → ⊥

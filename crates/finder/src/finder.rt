@@ -1,62 +1,39 @@
 //! The map over lent cells.
-ghost use Rattle.std.specs.Prelude.{◌≡◌, None};
+ghost use Rattle.std.specs.Prelude.{◌≡◌, length, None};
 ghost use Rattle.cells.specs.Cells.{lookup, taken, Sound};
 ghost use Rattle.finder.specs.Changes.{Inserted, Removed};
 
 use crate::shift::draw_up;
-use cells::{Cell, Key, Seek, clear, find, locate, value_at};
+use cells::{Cell, Key, clear, find, locate, value_at};
 
 /// No place is free for a new key.
-#[derive(Clone, Copy)]
+#[derive(Clone, Copy, Debug, PartialEq, Eq)]
 pub struct Full;
 
-fn insert<K: Key, V: Copy>(cells: &mut [Cell<K, V>], key: K, value: V) -> Result<Option<V>, Full>
-    requires { Sound K.number cells.old }
-    ensures sound { Sound K.number cells.new }
-    ensures inserted { Inserted K.equal cells.old key value result cells.new }
-{
-    match locate(cells, &key) {
-        Seek::Here(p) => {
-            let old = value_at(cells, p);
-            cells[p] = Cell::Used(key, value);
-            Ok(old)
-        }
-        Seek::Open(p) => {
-            cells[p] = Cell::Used(key, value);
-            Ok(None)
-        }
-        Seek::Full => Err(Full),
-    }
-}
-
-fn remove<K: Key, V: Copy>(cells: &mut [Cell<K, V>], key: &K) -> Option<V>
-    requires { Sound K.number cells.old }
-    ensures sound { Sound K.number cells.new }
-    ensures removed { Removed K.equal cells.old key.now result cells.new }
-{
-    match locate(cells, key) {
-        Seek::Here(p) => {
-            let old = value_at(cells, p);
-            cells[p] = Cell::Free;
-            draw_up(cells, p);
-            old
-        }
-        Seek::Open(_p) => None,
-        Seek::Full => None,
-    }
-}
-
+/// Lent cells in which a search finds every key.
 #[derive(Drop)]
-pub struct Finder<'a, K, V> {
+pub struct Finder<'a, K: Key, V> {
     pub cells: &'a mut [Cell<K, V>],
+    pub ghost sound: { Sound K.number cells.now },
 }
 
 impl<'a, K: Key, V: Copy> Finder<'a, K, V> {
-    /// Sets every place free, whatever the cells hold.
+    /// Over lent cells, whatever they hold: every place is set free.
+    pub fn new(cells: &'a mut [Cell<K, V>]) -> Finder<'a, K, V>
+        ensures none { (q : K) → lookup K.eq result.cells.now q ≡ None }
+        ensures taken { taken result.cells.now ≡ 0 }
+        ensures places { length result.cells.now ≡ length cells.old }
+        ensures lent { result.cells.ghost_name ≡ cells.entry.ghost_name }
+    {
+        clear(cells);
+        Finder { cells }
+    }
+
+    /// Sets every place free.
     pub fn clear(&mut self)
-        ensures sound { Sound K.number self.new.cells.now }
-        ensures none { (q : K) → lookup K.equal self.new.cells.now q ≡ None }
+        ensures none { (q : K) → lookup K.eq self.new.cells.now q ≡ None }
         ensures taken { taken self.new.cells.now ≡ 0 }
+        ensures places { length self.new.cells.now ≡ length self.old.cells.now }
         ensures lent { self.new.cells.ghost_name ≡ self.old.cells.ghost_name }
     {
         clear(self.cells)
@@ -64,29 +41,38 @@ impl<'a, K: Key, V: Copy> Finder<'a, K, V> {
 
     /// What the key finds.
     pub fn find(&self, key: &K) -> Option<V>
-        requires { Sound K.number self.now.cells.now }
-        ensures { result ≡ lookup K.equal self.now.cells.now key.now }
+        ensures { result ≡ lookup K.eq self.now.cells.now key.now }
     {
         find(self.cells, key)
     }
 
     /// Has the key find the value, and answers what it found before; refused exactly where the key is new and no place is free.
     pub fn insert(&mut self, key: K, value: V) -> Result<Option<V>, Full>
-        requires { Sound K.number self.old.cells.now }
-        ensures sound { Sound K.number self.new.cells.now }
-        ensures inserted { Inserted K.equal self.old.cells.now key value result self.new.cells.now }
+        ensures inserted { Inserted K.eq self.old.cells.now key value result self.new.cells.now }
+        ensures places { length self.new.cells.now ≡ length self.old.cells.now }
         ensures lent { self.new.cells.ghost_name ≡ self.old.cells.ghost_name }
     {
-        insert(self.cells, key, value)
+        let cells = &mut *self.cells;
+        let place = match locate(cells, &key) {
+            Ok(place) | Err(Some(place)) => place,
+            Err(None) => return Err(Full),
+        };
+        let old = value_at(cells, place);
+        cells[place] = Some((key, value));
+        Ok(old)
     }
 
     /// Has the key find nothing, and answers what it found before.
     pub fn remove(&mut self, key: &K) -> Option<V>
-        requires { Sound K.number self.old.cells.now }
-        ensures sound { Sound K.number self.new.cells.now }
-        ensures removed { Removed K.equal self.old.cells.now key.now result self.new.cells.now }
+        ensures removed { Removed K.eq self.old.cells.now key.now result self.new.cells.now }
+        ensures places { length self.new.cells.now ≡ length self.old.cells.now }
         ensures lent { self.new.cells.ghost_name ≡ self.old.cells.ghost_name }
     {
-        remove(self.cells, key)
+        let cells = &mut *self.cells;
+        let place = locate(cells, key).ok()?;
+        let old = value_at(cells, place);
+        cells[place] = None;
+        draw_up(cells, place);
+        old
     }
 }

@@ -1,18 +1,9 @@
 //! A place set free.
-ghost use Rattle.std.specs.Prelude.{◌≡◌, ◌<◌, length};
-ghost use Rattle.cells.specs.declared.cell.Cell.TheVariants.{Free};
+ghost use Rattle.std.specs.Prelude.{◌≡◌, ◌<◌, length, None, Decides};
 ghost use Rattle.cells.specs.Cells.{at, gap, lookup, taken, Sound, SoundBut};
-ghost use Rattle.finder.specs.Changes.{step};
+ghost use Rattle.finder.specs.Changes.{LeadsOver, Follower};
 
 use cells::{Cell, Key, next_place};
-
-/// What a place means for a hole before it: the row of keys ends there, its key stays, or its key moves into the hole.
-#[derive(Clone, Copy)]
-enum Step {
-    End,
-    Stay,
-    Move,
-}
 
 /// How far it is from a round to b.
 fn way(n: usize, a: usize, b: usize) -> usize
@@ -22,50 +13,46 @@ fn way(n: usize, a: usize, b: usize) -> usize
     if a <= b { b - a } else { n - a + b }
 }
 
-fn step_at<K: Key, V: Copy>(cells: &[Cell<K, V>], hole: usize, j: usize) -> Step
-    requires { (hole < length cells.now) × (j < length cells.now) }
-    ensures { result ≡ step K.number (length cells.now) hole j (at cells.now j) }
+/// Whether the way of a key at p leads over the hole.
+fn leads_over<K: Key>(key: &K, n: usize, hole: usize, p: usize) -> bool
+    requires { (hole < n) × (p < n) }
+    ensures { Decides result (LeadsOver K.number n hole p key.now) }
+{
+    let home = key.spread() % n;
+    way(n, home, hole) < way(n, home, p)
+}
+
+/// The place of the next key to draw up: one in the row behind the hole whose way leads over it.
+fn follower<K: Key, V: Copy>(cells: &[Cell<K, V>], hole: usize) -> Option<usize>
+    requires { hole < length cells.now }
+    ensures { Follower K.number hole cells.now result }
 {
     let n = cells.len();
-    let cell = cells[j];
-    match cell {
-        Cell::Free => Step::End,
-        Cell::Used(k, _v) => {
-            let home = k.spread() % n;
-            if way(n, home, hole) < way(n, home, j) {
-                Step::Move
-            } else {
-                Step::Stay
-            }
+    let next = next_place(hole, n);
+    // The answer is a place, and the row leads round the end.
+    for p in (next..n).chain(0..next) {
+        match &cells[p] {
+            None => return None,
+            Some((key, _)) if leads_over(key, n, hole, p) => return Some(p),
+            Some(_) => {}
         }
     }
+    None
 }
 
 /// Draws the keys behind a hole nearer to their homes, until no search for a key leads over the hole.
 pub(crate) fn draw_up<K: Key, V: Copy>(cells: &mut [Cell<K, V>], place: usize)
     requires within { place < length cells.old }
-    requires free { at cells.old place ≡ Free }
+    requires free { at cells.old place ≡ None }
     requires sound { SoundBut K.number place cells.old }
     ensures sound { Sound K.number cells.new }
-    ensures finds { (q : K) → lookup K.equal cells.new q ≡ lookup K.equal cells.old q }
+    ensures finds { (q : K) → lookup K.eq cells.new q ≡ lookup K.eq cells.old q }
     ensures taken { taken cells.new ≡ taken cells.old }
+    ensures places { length cells.new ≡ length cells.old }
 {
-    let n = cells.len();
     let mut hole = place;
-    let mut j = next_place(place, n);
-    while j != hole {
-        match step_at(cells, hole, j) {
-            Step::End => {
-                return;
-            }
-            Step::Stay => {}
-            Step::Move => {
-                let cell = cells[j];
-                cells[j] = Cell::Free;
-                cells[hole] = cell;
-                hole = j;
-            }
-        }
-        j = next_place(j, n);
+    while let Some(p) = follower(cells, hole) {
+        cells.swap(hole, p);
+        hole = p;
     }
 }

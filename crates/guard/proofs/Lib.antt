@@ -1,6 +1,5 @@
-pub mod Halves
-pub mod Places
-pub mod Unknown
+pub mod Counts
 pub mod Parts
 pub mod Renumbered
 pub mod Props
+pub mod Same

@@ -1,12 +1,12 @@
 -- The table lent out of the slice and come back.
-use Rattle.std.proofs.Common.{◌≡◌, ℕ, ◌+◌, ◌-◌, ◌<◌, List, ◌++◌, length, take, drop, set, sym, ap, ◌∙◌, subst, arith, length-append, length-drop, length-set, length-take-le, take_at, drop-set-lt, drop_at}
-use lib.Seq.{take-set-lt}
-use Rattle.table.specs.declared.records.OrderRecord.{OrderRecord}
+use Rattle.std.proofs.Common.{◌≡◌, ℕ, ◌+◌, ◌-◌, ◌++◌, length, take, drop, sym, ap, ◌∙◌, subst, arith, length-append, length-drop, length-take-le, take_at, drop_at}
 use Rattle.table.specs.declared.journals.Journal.{Journal}
-use Rattle.table.specs.Noting.{Agree, Follows, Moved}
+use Rattle.table.specs.Sequence.{Orders}
+use Rattle.table.specs.Noting.{Agree, Moved}
 use Rattle.guard.specs.Keeping.{Kept}
 
-kept_front : (n : ℕ) (all new : List OrderRecord) (j j' : Journal) → Kept n all j → length new ≡ length (take n all)
+-- A table that went on with its writes noted, before the spare.
+pub kept_front : (n : ℕ) (all new : Orders) (j j' : Journal) → Kept n all j → length new ≡ length (take n all)
     → Moved (take n all) j new j' → Kept n (new ++ drop n all) j'
 kept_front n all new j j' k same m =
     let both = k.halves in
@@ -22,28 +22,15 @@ kept_front n all new j j' k same m =
     }
 
 -- with the bounds as the code has them in `all[0..n]`
-pub kept_part : (n : ℕ) (all new : List OrderRecord) (j j' : Journal) → Kept n all j → length new ≡ length (take (n - 0) all)
+pub kept_part : (n : ℕ) (all new : Orders) (j j' : Journal) → Kept n all j → length new ≡ length (take (n - 0) all)
     → Moved (take (n - 0) all) j new j' → Kept n (new ++ drop (n - 0) all) j'
 kept_part n all new j j' k =
     let same : n ≡ n - 0 = omega arith in
     subst (λ v. length new ≡ length (take v all) → Moved (take v all) j new j' → Kept n (new ++ drop v all) j') same
     (kept_front n all new j j' k)
 
--- One place of the table written to and noted.
-pub kept_put : (n : ℕ) (all : List OrderRecord) (j j' : Journal) (i : ℕ) (o : OrderRecord) → i < n
-    → Follows i j j' → Kept n all j → Kept n (set all i o) j'
-kept_put n all j j' i o h f k =
-    let both = k.halves in
-    record {
-      halves = both ∙ sym (length-set all i o);
-      small = k.small;
-      agree = subst (λ t. Agree n j' t (drop n (set all i o))) (sym (take-set-lt n all i o h))
-          (subst (λ s. Agree n j' (set (take n all) i o) s) (sym (drop-set-lt n all i o h))
-          (f n (take n all) (drop n all) o h (length-take-le n all (omega arith)) k.agree));
-    }
-
 -- What stands in the two halves then.
-module _ (n : ℕ) (all new : List OrderRecord) (both : n + n ≡ length all) (same : length new ≡ length (take (n - 0) all)) where
+module _ (n : ℕ) (all new : Orders) (both : n + n ≡ length all) (same : length new ≡ length (take (n - 0) all)) where
   size : length new ≡ n
   size = let whole : n - 0 ≡ n = omega arith in same ∙ ap (λ v. length (take v all)) whole ∙ length-take-le n all (omega arith)
 
@@ -53,5 +40,5 @@ module _ (n : ℕ) (all new : List OrderRecord) (both : n + n ≡ length all) (s
   pub part_spare : drop n (new ++ drop (n - 0) all) ≡ drop n all
   part_spare = let whole : n - 0 ≡ n = omega arith in drop_at new (drop (n - 0) all) n size ∙ ap (λ v. drop v all) whole
 
-pub part_lent : (n : ℕ) (all : List OrderRecord) → take (n - 0) all ≡ take n all
+pub part_lent : (n : ℕ) (all : Orders) → take (n - 0) all ≡ take n all
 part_lent n all = let whole : n - 0 ≡ n = omega arith in ap (λ v. take v all) whole

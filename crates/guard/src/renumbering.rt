@@ -1,54 +1,40 @@
 //! Priority timestamps never run out: they are made small again, in the same sequence.
-ghost use Rattle.std.specs.Prelude.{◌≡◌, ◌+◌, ◌<◌, ◌≤◌, length, take, drop, if◌then◌else◌, nat_lt};
+ghost use Rattle.std.specs.Prelude.{◌≡◌, ◌<◌, ◌≤◌, length, map, take, drop};
+ghost use Rattle.std.specs.Option.{option_map};
 ghost use Rattle.table.specs.Sequence.{earlier, resting_of};
+ghost use Rattle.table.specs.Noting.{Moved};
 ghost use Rattle.table.specs.Places.{Sound};
 ghost use Rattle.guard.specs.Keeping.{Kept};
-ghost use Rattle.guard.specs.Renumbering.{renumbered, with_room};
+ghost use Rattle.guard.specs.Renumbering.{ranked, with_room};
 
 use table::{Ends, Journal, OrderRecord};
 
-/// Counts a live record with an earlier timestamp as one, any other as none.
-fn one_if_earlier(order: OrderRecord, time: u64) -> u64
-    ensures { result ≡ (if order.live then (if nat_lt order.time time then 1 else 0) else 0) }
+/// How many records have an earlier timestamp.
+fn earlier(places: &[Option<OrderRecord>], time: u64) -> usize
+    ensures { result ≡ earlier places.now time }
 {
-    if order.live {
-        if order.time < time { 1 } else { 0 }
-    } else {
-        0
-    }
+    places
+        .iter()
+        .filter(|place| place.is_some_and(|order| order.time < time))
+        .count()
 }
 
-/// How many live records of the spare have an earlier timestamp.
-fn earlier_in_spare(all: &[OrderRecord], n: usize, time: u64) -> u64
-    requires long { n + n ≡ length all.now }
-    requires small { n ≤ 65536 }
-    ensures { result ≡ earlier (drop n all.now) time }
+/// Gives each record of the table as its timestamp its rank in the spare.
+fn renumber(table: &mut [Option<OrderRecord>], spare: &[Option<OrderRecord>], journal: &mut Journal)
+    requires { length table.old ≤ 65536 }
+    ensures table { table.new ≡ map (option_map (ranked spare.now)) table.old }
+    ensures moved { Moved table.old journal.old table.new journal.new }
 {
-    let mut count = 0;
-    for i in n..all.len() {
-        count += one_if_earlier(all[i], time);
-    }
-    count
-}
-
-/// Gives each record of the table its rank in the spare, which is the same table, as its timestamp.
-fn renumber(all: &mut [OrderRecord], journal: &mut Journal, n: usize)
-    requires kept { Kept n all.old journal.old }
-    requires same { drop n all.old ≡ take n all.old }
-    ensures table { take n all.new ≡ renumbered (take n all.old) }
-    ensures spare { drop n all.new ≡ drop n all.old }
-    ensures kept { Kept n all.new journal.new }
-{
-    for i in 0..n {
-        let mut value = all[i];
-        value.time = earlier_in_spare(all, n, value.time);
-        all[i] = value;
-        journal.note(i);
+    for (i, place) in table.iter_mut().enumerate() {
+        if let Some(order) = place {
+            order.time = earlier(spare, order.time) as u64;
+            journal.note(i);
+        }
     }
 }
 
 /// Sees to it that half of all timestamps are to be had. It stands right after the start of a call.
-pub fn make_room(all: &mut [OrderRecord], journal: &mut Journal, n: usize, ends: &mut Ends)
+pub fn make_room(all: &mut [Option<OrderRecord>], journal: &mut Journal, n: usize, ends: &mut Ends)
     requires kept { Kept n all.old journal.old }
     requires same { drop n all.old ≡ take n all.old }
     requires sound { Sound (take n all.old) ends.old }
@@ -60,7 +46,8 @@ pub fn make_room(all: &mut [OrderRecord], journal: &mut Journal, n: usize, ends:
     ensures kept { Kept n all.new journal.new }
 {
     if ends.next >= 9_223_372_036_854_775_808 {
-        renumber(all, journal, n);
+        let (table, spare) = all.split_at_mut(n);
+        renumber(table, spare, journal);
         ends.next = n as u64;
     }
 }

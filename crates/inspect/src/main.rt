@@ -3,7 +3,7 @@
 //!     inspect [lot=100|500|1000] < capture.frames
 #![tactic(auto)]
 
-use anyhow::anyhow;
+use anyhow::{Context, bail};
 use codec::next_call;
 use faults::{FieldFault, FrameFault};
 use std::io::{BufWriter, IsTerminal, Read, Write};
@@ -17,55 +17,19 @@ use words::{CallLine, RefusalLine};
 const FRAMES_A_SIGN: u64 = 262_144;
 
 fn read_lot(value: &str) -> Option<Lot> {
-    match value.parse::<u32>() {
-        Ok(shares) => Lot::from_shares(shares),
-        Err(_) => None,
-    }
+    let shares = value.parse::<u32>().ok()?;
+    Lot::try_from(shares).ok()
 }
 
 fn read_words(rt: &HostRuntime) -> anyhow::Result<Lot> {
     let mut lot = Lot::Hundred;
     for word in env::args(rt)?.skip(1) {
         lot = match word.as_str().split_once('=') {
-            Some(("lot", value)) => match read_lot(value) {
-                Some(lot) => lot,
-                None => return Err(anyhow!("lot= takes 100, 500 or 1000")),
-            },
-            _ => return Err(anyhow!("the only word is lot=100, lot=500 or lot=1000")),
+            Some(("lot", value)) => read_lot(value).context("lot= takes 100, 500 or 1000")?,
+            _ => bail!("the only word is lot=100, lot=500 or lot=1000"),
         };
     }
     Ok(lot)
-}
-
-fn is_cut_short(fault: FieldFault) -> bool {
-    match fault {
-        FieldFault::Frame(FrameFault::Short) => true,
-        _ => false,
-    }
-}
-
-/// One frame's line. It answers whether the reading goes on, and whether the frame was refused.
-fn print_next(
-    out: &mut impl Write,
-    frames: &mut FrameReader,
-    lot: Lot,
-    number: u64,
-) -> io::Result<(bool, bool)> {
-    match next_call(frames, lot) {
-        Ok(None) => Ok((false, false)),
-        Ok(Some(call)) => {
-            let line = CallLine { call };
-            writeln!(out, "{number} {line}")?;
-            Ok((true, false))
-        }
-        Err(fault) => {
-            let line = RefusalLine {
-                refusal: fault.refusal(),
-            };
-            writeln!(out, "{number} {line}")?;
-            Ok((!is_cut_short(fault), true))
-        }
-    }
 }
 
 fn run(rt: &HostRuntime) -> anyhow::Result<()> {
@@ -76,17 +40,24 @@ fn run(rt: &HostRuntime) -> anyhow::Result<()> {
     let mut out = BufWriter::new(rt.alloc(), rt.stdout())?;
     let mut frames = FrameReader::new(input.as_slice());
     let mut count = 0u64;
-    let mut refusals = 0u64;
+    let mut refused = 0u64;
+    // The range numbers the lines, and the input ends the loop.
     for number in 1..u64::MAX {
-        let (more, refused) = print_next(&mut out, &mut frames, lot, number)?;
-        if more || refused {
-            count = number;
-        }
-        if refused {
-            refusals = refusals.saturating_add(1);
-        }
-        if !more {
+        let Some(next) = next_call(&mut frames, lot).transpose() else {
             break;
+        };
+        count = number;
+        match next {
+            Ok(call) => writeln!(out, "{number} {}", CallLine { call })?,
+            Err(fault) => {
+                refused += 1;
+                let refusal = fault.into();
+                writeln!(out, "{number} {}", RefusalLine { refusal })?;
+                // Behind a frame that is cut short there is none to read.
+                if fault == FieldFault::Frame(FrameFault::Short) {
+                    break;
+                }
+            }
         }
         if terminal && number % FRAMES_A_SIGN == 0 {
             eprintln!(rt; "inspect: {number} frames so far")?;
@@ -95,7 +66,7 @@ fn run(rt: &HostRuntime) -> anyhow::Result<()> {
     let left = frames.bytes_left();
     writeln!(
         out,
-        "end {count} frames, {refusals} refused, {left} bytes not read"
+        "end {count} frames, {refused} refused, {left} bytes not read"
     )?;
     out.flush()?;
     Ok(())

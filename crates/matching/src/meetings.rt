@@ -22,6 +22,7 @@ pub struct Meeting<'a> {
     pub ghost fits: { volume_of resting < 2 ^ 32 },
 }
 
+// Each push takes some of the sheet's room, so that what room there is stands with each method, and in no type.
 impl Meeting<'_> {
     ghost use Rattle.matching.specs.Meetings.{slice_met, one_key, ComesTo};
 

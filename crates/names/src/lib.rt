@@ -8,6 +8,7 @@ use faults::Reason;
 use types::{Marks, OrderKind, Side, TimeInForce};
 
 /// What is told by a word of its own.
+// No `Display`, since the types are of other crates, and words are compared as well as printed.
 pub trait Worded: Sized {
     ghost words: { Self → List ℕ };
 

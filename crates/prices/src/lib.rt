@@ -83,8 +83,6 @@ pub fn may_take(view: &View, active: &Entry, resting: &Entry) -> bool
 }
 
 /// Worked cases of the middle and of a limit beyond the far side of the quote.
-pub fn prices_hold() -> u8
+pub fn prices_hold()
     ensures { PricesHold }
-{
-    0
-}
+{}

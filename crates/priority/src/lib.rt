@@ -2,7 +2,7 @@
 #![tactic(auto)]
 
 ghost use Rattle.std.specs.Prelude.{◌≡◌};
-ghost use Rattle.priority.specs.Priority.{Rule, Likes, Lawful, ◌then◌, best_price, shown_first, preferring, own_broker, attributed, omega_prefers, lynx_prefers, time_only, omega_rule, lynx_rule};
+ghost use Rattle.priority.specs.Priority.{Rule, Likes, Lawful, ◌then◌, best_price, preferring, own_broker, attributed, omega_prefers, lynx_prefers, time_only, omega_rule, lynx_rule};
 ghost use Rattle.priority.specs.Rules.{time_only_lawful, preferring_lawful};
 
 use std::cmp::Ordering;
@@ -47,18 +47,11 @@ fn by_price(taker: Taker, s: SliceFacts, t: SliceFacts) -> Ordering
     }
 }
 
-/// Shown is ahead of hidden.
-fn by_shown(taker: Taker, s: SliceFacts, t: SliceFacts) -> Ordering
-    ensures { result ≡ shown_first taker s t }
-{
-    s.hidden.cmp(&t.hidden)
-}
-
-/// Price, then shown.
+/// Price, and then shown before hidden.
 fn by_price_and_shown(taker: Taker, s: SliceFacts, t: SliceFacts) -> Ordering
     ensures { result ≡ time_only taker s t }
 {
-    by_price(taker, s, t).then(by_shown(taker, s, t))
+    by_price(taker, s, t).then(s.hidden.cmp(&t.hidden))
 }
 
 /// One broker, and neither is jitney.
@@ -97,6 +90,7 @@ pub trait Preference {
         ensures { result ≡ likes taker s };
 }
 
+/// Price and shown lead, and among slices that are level by these the preferred ones.
 impl<P: Preference> Priority for P {
     ghost rule = { λ _. time_only then preferring P.likes };
 
@@ -133,8 +127,6 @@ impl Preference for Lynx {
 }
 
 /// The three rules keep the five laws.
-pub fn rules_are_lawful() -> u8
+pub fn rules_are_lawful()
     ensures { Lawful omega_rule × Lawful lynx_rule × Lawful time_only }
-{
-    0
-}
+{}

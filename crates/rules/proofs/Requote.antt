@@ -27,15 +27,15 @@ use Rattle.rules.proofs.Enter.{Finished}
 -- Where an order stands.
 
 further_some : (x : Option Spot) (s : Spot) → further x ≡ Some s → (t : Spot) × (x ≡ Some t) × (s ≡ record { place = suc t.place; order = t.order })
-further_some None s e = let z : ◌≡◌ {A = ℕ} 0 1 = cc in absurd (omega arith)
+further_some None s e = cc
 further_some (Some t) s e = (t, refl, cc)
 
 further_none : (x : Option Spot) → further x ≡ None → x ≡ None
 further_none None e = refl
-further_none (Some t) e = let z : ◌≡◌ {A = ℕ} 0 1 = cc in absurd (omega arith)
+further_none (Some t) e = cc
 
 seek_some : (n : ℕ) (os : List RestingOrder) (s : Spot) → seek n os ≡ Some s → At os s.place s.order × (s.order.order.number.number ≡ n)
-seek_some n [] s e = let z : ◌≡◌ {A = ℕ} 0 1 = cc in absurd (omega arith)
+seek_some n [] s e = cc
 seek_some n (o ∷ os) s e = go (seek_some n os) (eqb n o.order.number.number) refl e
   where
     go : ((t : Spot) → seek n os ≡ Some t → At os t.place t.order × (t.order.order.number.number ≡ n)) → (b : Bool) → eqb n o.order.number.number ≡ b
@@ -53,7 +53,7 @@ seek_none n (x ∷ os) e o i h = go (seek_none n os) (eqb n x.order.number.numbe
   where
     go : (seek n os ≡ None → (o : RestingOrder) → In o os → o.order.number.number ≡ n → ⊥) → (b : Bool) → eqb n x.order.number.number ≡ b
         → cond b (Some (record { place = 0; order = x })) (further (seek n os)) ≡ None → (o ≡ x) ⊎ In o os → ⊥
-    go ih true y e i = let z : ◌≡◌ {A = ℕ} 0 1 = cc in omega arith
+    go ih true y e i = cc
     go ih false y e (inl i) = eqb-false _ _ y (sym h ∙ ap (λ (z : RestingOrder). z.order.number.number) i)
     go ih false y e (inr i) = ih (further_none (seek n os) e) o i h
 
@@ -285,8 +285,8 @@ module _ (rule : Rule) (law : Lawful rule) (orders : List Order) (unique : Uniqu
 
 same_price_is : (x y : Option Price) → same_price x y ≡ true → x ≡ y
 same_price_is None None h = refl
-same_price_is None (Some p) h = absurd (both_ways false refl h)
-same_price_is (Some p) None h = absurd (both_ways false refl h)
+same_price_is None (Some p) h = cc
+same_price_is (Some p) None h = cc
 same_price_is (Some p) (Some r) h = ap (λ (n : ℕ). Some (record { quarters = n })) (eqb-true p.quarters r.quarters h)
 
 in_to_end : (test : RestingOrder → Bool) (o : RestingOrder) (os : List RestingOrder) → In o (to_end test os) → In o os

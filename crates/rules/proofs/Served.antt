@@ -1,5 +1,5 @@
 -- How a call is served, by what speaks against it. Assumes nothing.
-use Rattle.std.proofs.Common.{◌≡◌, ℕ, ◌<◌, ◌≤◌, Bool, true, false, cond, ltb, List, [], ◌∷◌, ◌++◌, length, Some, None, refl, ap, ◌∙◌, arith}
+use Rattle.std.proofs.Common.{◌≡◌, ℕ, ◌<◌, ◌≤◌, Bool, true, false, cond, ltb, List, [], ◌∷◌, ◌++◌, length, Some, None, refl, ap, ◌∙◌}
 use Rattle.std.proofs.lemmas.Bool.{cond-true, cond-false, lt-ltb, le-ltb}
 use Rattle.types.specs.declared.calls.Call.{Call}
 use Rattle.faults.specs.declared.layers.BookFault.TheVariants as book
@@ -13,7 +13,7 @@ use Rattle.rules.specs.Refusals.{Ground, first_fault, grounds, room}
 use Rattle.rules.specs.Served.{refused, taken, settled, served}
 
 pub fault_first : (gs hs : List Ground) (f : ChannelFault) → first_fault gs ≡ Some f → first_fault (gs ++ hs) ≡ Some f
-fault_first [] hs f e = let z : ◌≡◌ {A = ℕ} 0 1 = cc in absurd (omega arith)
+fault_first [] hs f e = cc
 fault_first (g ∷ gs) hs f e = go g.applies e (fault_first gs hs f)
   where
     go : (b : Bool) → cond b (Some g.fault) (first_fault gs) ≡ Some f → (first_fault gs ≡ Some f → first_fault (gs ++ hs) ≡ Some f) → cond b (Some g.fault) (first_fault (gs ++ hs)) ≡ Some f
@@ -25,7 +25,7 @@ fault_next [] hs e = refl
 fault_next (g ∷ gs) hs e = go g.applies e (fault_next gs hs)
   where
     go : (b : Bool) → cond b (Some g.fault) (first_fault gs) ≡ None → (first_fault gs ≡ None → first_fault (gs ++ hs) ≡ first_fault hs) → cond b (Some g.fault) (first_fault (gs ++ hs)) ≡ first_fault hs
-    go true e ih = let z : ◌≡◌ {A = ℕ} 0 1 = cc in absurd (omega arith)
+    go true e ih = cc
     go false e ih = ih e
 
 module _ (s : SetUp) (rule : Rule) (st : State) (c : Call) where

@@ -1,5 +1,6 @@
 -- What stays while an order runs. Assumes nothing.
 use Rattle.std.proofs.Common.{◌≡◌, ℕ, ◌+◌, ◌<◌, ◌≤◌, min, Bool, true, false, cond, ◌||◌, eqb, ltb, List, [], ◌∷◌, ◌++◌, map, Some, None, Option, sym, refl, ap, ◌∙◌, subst, inl, inr, arith}
+use Rattle.std.proofs.Math.Bool.{or_comm}
 use Rattle.std.proofs.lemmas.Bool.{both_ways, eqb-true, eq-eqb, or_cases, cond_both}
 use Rattle.types.specs.declared.money.Price.{Price}
 use Rattle.types.specs.declared.orders.Order.{Order}
@@ -77,12 +78,6 @@ pub record Known (orders : List Order) (a : Order) (rows : List Order) : Type 0 
   pub unique : (x y : Order) → In x orders → In y orders → x.number.number ≡ y.number.number → x ≡ y
   pub listed : (x : Order) → In x rows → In x orders
   pub active : In a orders
-
-or_swap : (x y : Bool) → (x || y) ≡ true → (y || x) ≡ true
-or_swap true true h = refl
-or_swap true false h = refl
-or_swap false true h = refl
-or_swap false false h = h
 
 pub on_pos : (n m v : ℕ) → 0 < on n m v → (n ≡ m) × (0 < v)
 on_pos n m v h = go (eqb n m) refl h
@@ -188,7 +183,7 @@ module _ (rule : Rule) (law : Lawful rule) (orders : List Order) (q : View) (a :
           high = rw (limit_stays log b) g.0;
           bid = rw e (λ o k. omega (arith, f.1 o k));
           offer = rw e g.1;
-          peg = rw e (λ k. pegs (or_swap (is_peg b.entry.kind) (is_peg a.entry.kind) k));
+          peg = rw e (λ k. pegs (or_comm (is_peg a.entry.kind) (is_peg b.entry.kind) ∙ k));
           best = rw (e, me) (λ d r j k t pr w. best d r j k t pr (subst (λ (s : Side). better s r p ≡ true) (sym ax) w));
         }
 
@@ -196,8 +191,8 @@ module _ (rule : Rule) (law : Lawful rule) (orders : List Order) (q : View) (a :
       → v ≤ left_by_reports a.number.number log → v ≤ left_by_reports b.number.number log
       → (x y : Side) → a.entry.side ≡ x → b.entry.side ≡ y → opposite x y ≡ true → Fair x a.entry.limit q pa → Fair y b.entry.limit q p → Cross x pa p
       → FairReport orders log (trade_of x a b p v sup)
-  fair_with log e b i pa p v sup m h own its Buy Buy ax by o f g l = absurd (both_ways false refl o)
-  fair_with log e b i pa p v sup m h own its Sell Sell ax by o f g l = absurd (both_ways false refl o)
+  fair_with log e b i pa p v sup m h own its Buy Buy ax by o f g l = cc
+  fair_with log e b i pa p v sup m h own its Sell Sell ax by o f g l = cc
   fair_with log e b i pa p v sup m h own its Buy Sell ax by o f g l = bought log e b i pa p v _ m h own its (marked Buy sup) ax by f g l
   fair_with log e b i pa p v sup m h own its Sell Buy ax by o f g l = sold log e b i pa p v _ m h own its (marked Sell sup) ax by f g l
 

@@ -82,8 +82,8 @@ is_latency_sensitive None = false
 is_latency_sensitive (Some e) = e.latency_sensitive
 
 -- A latency-sensitive trader enters only post-only orders.
-abbrev pub latency_sensitive : Entry → State → Ground
-latency_sensitive e st = by_book (is_latency_sensitive (enrolled e.trader st.traders) && not e.marks.post_only) book.LatencySensitive
+abbrev pub must_be_post_only : Entry → State → Ground
+must_be_post_only e st = by_book (is_latency_sensitive (enrolled e.trader st.traders) && not e.marks.post_only) book.LatencySensitive
 
 -- The entry without its post-only mark.
 abbrev pub unmarked : Entry → Entry
@@ -123,8 +123,8 @@ other_brokers c st =
     (book.OtherBrokers c.order)
 
 -- As many orders were accepted as a day takes.
-abbrev pub day_limit : SetUp → State → Ground
-day_limit s st = by_book (nat_le s.day_limit st.accepted) book.DayLimit
+abbrev pub day_full : SetUp → State → Ground
+day_full s st = by_book (nat_le s.day_limit st.accepted) book.DayLimit
 
 -- As many orders rest as the table has places, before the entry is run.
 abbrev pub table_full : SetUp → State → Ground
@@ -133,7 +133,7 @@ table_full s st = by_book (nat_le s.table (length st.resting)) book.TableFull
 -- The grounds in the state of the book, call by call.
 abbrev pub by_state : SetUp → Call → State → List Ground
 by_state s (call.Enter e) st =
-    when_closed st ∷ when_halted st ∷ unknown_trader e.trader st ∷ latency_sensitive e st ∷ would_take e st ∷ day_limit s st ∷ table_full s st ∷ []
+    when_closed st ∷ when_halted st ∷ unknown_trader e.trader st ∷ must_be_post_only e st ∷ would_take e st ∷ day_full s st ∷ table_full s st ∷ []
 by_state s (call.Cancel c) st = when_closed st ∷ unknown_trader c.trader st ∷ unknown_order c st ∷ other_brokers c st ∷ []
 by_state s (call.Quote q) st = when_closed st ∷ when_halted st ∷ []
 by_state s call.Halt st = when_closed st ∷ when_halted st ∷ []

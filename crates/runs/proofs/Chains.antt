@@ -164,7 +164,7 @@ module _ (rule : Rule) (law : Lawful rule) (q : View) (a : Order) where
   is_next st s e = go (eqb st.left 0) e
     where
       go : (b : Bool) → cond b None (foremost (ahead rule q a) (slices q a st.others)) ≡ Some s → Foremost rule q a st s
-      go true e = let z : ◌≡◌ {A = ℕ} 0 1 = cc in absurd (omega arith)
+      go true e = cc
       go false e = is_foremost st s e
 
   is_over : (st : Progress) → next_slice rule q a st ≡ None → Over q a st

@@ -38,7 +38,7 @@ in_kept {X} p x (y ∷ xs) h = go (in_kept p x xs) (p y) refl h
     go ih false e k = let r = ih k in (inr r.0, r.1)
 
 pub find_some : {X : Type 0} (p : X → Bool) (x : X) (xs : List X) → find p xs ≡ Some x → In x xs × (p x ≡ true)
-find_some p x [] h = let z : ◌≡◌ {A = ℕ} 0 1 = cc in absurd (omega arith)
+find_some p x [] h = cc
 find_some {X} p x (y ∷ xs) h = go (find_some p x xs) (p y) refl h
   where
     go : (find p xs ≡ Some x → In x xs × (p x ≡ true)) → (b : Bool) → p y ≡ b → cond b (Some y) (find p xs) ≡ Some x → ((x ≡ y) ⊎ In x xs) × (p x ≡ true)
@@ -50,7 +50,7 @@ find_none p x [] h i = absurd i
 find_none {X} p x (y ∷ xs) h i = go (find_none p x xs) (p y) refl h i
   where
     go : (find p xs ≡ None → In x xs → p x ≡ false) → (b : Bool) → p y ≡ b → cond b (Some y) (find p xs) ≡ None → (x ≡ y) ⊎ In x xs → p x ≡ false
-    go ih true e k i = let z : ◌≡◌ {A = ℕ} 0 1 = cc in absurd (omega arith)
+    go ih true e k i = cc
     go ih false e k (inl i) = ap p i ∙ e
     go ih false e k (inr i) = ih k i
 

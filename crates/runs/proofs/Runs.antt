@@ -33,7 +33,7 @@ module _ (rule : Rule) (q : View) (a : Order) where
   chosen st s e = go (eqb st.left 0) refl e
     where
       go : (b : Bool) → eqb st.left 0 ≡ b → cond b None (foremost (ahead rule q a) (slices q a st.others)) ≡ Some s → (0 < st.left) × Top st s
-      go true x e = let z : ◌≡◌ {A = ℕ} 0 1 = cc in absurd (omega arith)
+      go true x e = cc
       go false x e = (omega (arith, eqb-false st.left 0 x), foremost_some (ahead rule q a) s (slices q a st.others) e)
 
   -- what each meeting keeps, all of them keep

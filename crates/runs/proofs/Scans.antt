@@ -1,5 +1,5 @@
 -- One pass over the slices that keeps the best so far finds the foremost. Assumes nothing.
-use Rattle.std.proofs.Common.{◌≡◌, ℕ, Bool, true, false, cond, List, [], ◌∷◌, ◌++◌, Some, None, Option, sym, refl, ap, ◌∙◌, inl, inr, append_assoc, append-nil, arith}
+use Rattle.std.proofs.Common.{◌≡◌, Bool, true, false, cond, List, [], ◌∷◌, ◌++◌, Some, None, Option, sym, refl, ap, ◌∙◌, inl, inr, append_assoc, append-nil}
 use Rattle.std.proofs.lemmas.Bool.{both_ways}
 use Rattle.std.specs.List.{find}
 use Rattle.runs.specs.Lists.{In, no_one, foremost}
@@ -23,7 +23,7 @@ find_weaker {X} p p' b (x ∷ xs) e f t = go (p x) refl e (find_weaker p p' b xs
     go false h e ih = rw (f x (inl refl) h) (ih e (λ y j. f y (inr j)) t)
 
 find_front : {X : Type 0} (p : X → Bool) (b : X) (xs ys : List X) → find p xs ≡ Some b → find p (xs ++ ys) ≡ Some b
-find_front p b [] ys e = let z : ◌≡◌ {A = ℕ} 0 1 = cc in absurd (omega arith)
+find_front p b [] ys e = cc
 find_front {X} p b (x ∷ xs) ys e = go (p x) e (find_front p b xs ys)
   where
     go : (c : Bool) → cond c (Some x) (find p xs) ≡ Some b → (find p xs ≡ Some b → find p (xs ++ ys) ≡ Some b) → cond c (Some x) (find p (xs ++ ys)) ≡ Some b

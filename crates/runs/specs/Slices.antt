@@ -4,25 +4,18 @@ use Rattle.std.specs.Ordering.{is_lt}
 use Rattle.types.specs.declared.money.Price.{Price}
 use Rattle.types.specs.declared.orders.Order.{Order}
 use Rattle.types.specs.declared.orders.RestingOrder.{RestingOrder}
+pub use Rattle.types.specs.Orders.{volume_of, volume_in}
 use Rattle.types.specs.Reports.{price_or_zero}
 use Rattle.prices.specs.Prices.{View, price, is_peg, may_take}
 use Rattle.priority.specs.declared.SliceFacts.{SliceFacts}
 use Rattle.priority.specs.declared.Taker.{Taker}
 use Rattle.priority.specs.Priority.{Rule}
 
--- One of the two volumes of a resting order, with the order's place on the time list.
+-- One of the two volumes of a resting order, with the order's place on the time list. A limit has all of its volume in the shown slice, a peg in the hidden one, and an iceberg in both.
 pub record Slice : Type 0 where
   pub place : ℕ
   pub resting : RestingOrder
   pub hidden : Bool
-
--- What is left of a resting order, reserve included.
-abbrev pub volume_of : RestingOrder → ℕ
-volume_of o = o.shown.shares + o.reserve.shares
-
--- A limit has all of its volume in the shown slice, a peg in the hidden one, and an iceberg in both.
-abbrev pub volume_in : RestingOrder → Bool → ℕ
-volume_in o hidden = cond hidden o.reserve.shares o.shown.shares
 
 -- The volume of a slice.
 abbrev pub amount : Slice → ℕ

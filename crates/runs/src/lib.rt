@@ -4,8 +4,6 @@
 ghost use Rattle.runs.specs.Chains.{RunsHold};
 
 /// From any start and under every lawful rule there is exactly one chain of meetings, and it is the run.
-pub fn runs_hold() -> u8
+pub fn runs_hold()
     ensures { RunsHold }
-{
-    0
-}
+{}

@@ -1,6 +1,5 @@
 -- What each report says. A field that a report does not name is 0.
-use Rattle.std.specs.Prelude.{ℕ, ◌+◌, Bool, cond, Some, None, Option, Result, ◌==◌}
-use Rattle.std.specs.Option.{ok_or}
+use Rattle.std.specs.Prelude.{ℕ, ◌+◌, Bool, cond, Some, None, Option, Result, ok_or, ◌==◌}
 use Rattle.types.specs.declared.money.Price.{Price}
 use Rattle.types.specs.declared.money.Volume.{Volume}
 use Rattle.types.specs.declared.orders.OrderNumber.{OrderNumber}

@@ -1,5 +1,5 @@
 -- The two laws of layouts, one field at a time.
-use Rattle.std.proofs.Common.{◌≡◌, ℕ, zero, suc, ◌+◌, ◌*◌, ◌/◌, ◌%◌, ◌<◌, ◌≤◌, List, [], ◌∷◌, ◌++◌, length, get_or, take, drop, sym, refl, ap, ◌∙◌, append_assoc, add-one, arith, length-append, drop-cons, get_or-append-add}
+use Rattle.std.proofs.Common.{◌≡◌, ℕ, zero, suc, ◌+◌, ◌*◌, ◌/◌, ◌%◌, ◌<◌, ◌≤◌, List, [], ◌∷◌, ◌++◌, length, get_or, take, drop, sym, refl, ap, ◌∙◌, append_assoc, add-one, arith, rules, length-append, drop-cons, get_or-append-add}
 use lib.Seq.{get_or-append_seam}
 use Rattle.std.proofs.lemmas.Nat.{shr-shr, div-add-mod'}
 use Rattle.wire.specs.Layouts.{Width, one, two, four, size, limit, number, bytes, total, fields, laid, Fit, Bytes}
@@ -14,20 +14,14 @@ joined n h =
 pub split : (a b c d : ℕ) → a < 256 → b < 256 → c < 256 → d < 256 → (more : List ℕ)
     → bytes four (a * 16777216 + b * 65536 + c * 256 + d) more ≡ a ∷ b ∷ c ∷ d ∷ more
 split a b c d ha hb hc hd more =
-    let e : (a * 16777216 + b * 65536 + c * 256 + d) / 16777216 % 256 ≡ a = omega arith in
-    let f : (a * 16777216 + b * 65536 + c * 256 + d) / 65536 % 256 ≡ b = omega arith in
-    let g : (a * 16777216 + b * 65536 + c * 256 + d) / 256 % 256 ≡ c = omega arith in
-    let k : (a * 16777216 + b * 65536 + c * 256 + d) % 256 ≡ d = omega arith in
-    cc
+    grind arith
 
 halves : (a b : ℕ) → a < 256 → b < 256 → (more : List ℕ) → bytes two (a * 256 + b) more ≡ a ∷ b ∷ more
 halves a b ha hb more =
-    let e : (a * 256 + b) / 256 % 256 ≡ a = omega arith in
-    let f : (a * 256 + b) % 256 ≡ b = omega arith in
-    cc
+    grind arith
 
 pub below : (b : List ℕ) → Bytes b → (i : ℕ) → get_or b i 0 < 256
-below [] a i = omega arith
+below [] a i = search rules
 below (x ∷ xs) a zero = a.0
 below (x ∷ xs) a (suc i) = below xs a.1 i
 
@@ -38,34 +32,11 @@ first b i n h = rw (add-one, drop-cons b i 0 h)
 -- one field again: more is what follows it
 again : (w : Width) (b : List ℕ) → Bytes b → (i n : ℕ) → i + (size w + n) ≤ length b
     → bytes w (number w b i) (take n (drop (i + size w) b)) ≡ take (size w + n) (drop i b)
-again one b a i n h =
-    let p : i < length b = omega arith in
-    let e : 1 + n ≡ suc n = omega arith in
-    rw e (sym (first b i n p))
-again two b a i n h =
-    let p : i < length b = omega arith in
-    let q : i + 1 < length b = omega arith in
-    let e : 2 + n ≡ suc (suc n) = omega arith in
-    let f : i + 1 + 1 ≡ i + 2 = omega arith in
-    let u = first b i (suc n) p in
-    let v = first b (i + 1) n q in
-    let w = halves (get_or b i 0) (get_or b (i + 1) 0) (below b a i) (below b a (i + 1)) (take n (drop (i + 2) b)) in
-    cc
+again one b a i n h = grind (arith, first)
+again two b a i n h = grind (arith, first, halves, below)
 again four b a i n h =
-    let p : i < length b = omega arith in
-    let q : i + 1 < length b = omega arith in
-    let r : i + 2 < length b = omega arith in
-    let s : i + 3 < length b = omega arith in
-    let e : 4 + n ≡ suc (suc (suc (suc n))) = omega arith in
-    let f : i + 1 + 1 ≡ i + 2 = omega arith in
-    let g : i + 2 + 1 ≡ i + 3 = omega arith in
-    let k : i + 3 + 1 ≡ i + 4 = omega arith in
-    let t = first b i (suc (suc (suc n))) p in
-    let u = first b (i + 1) (suc (suc n)) q in
-    let v = first b (i + 2) (suc n) r in
-    let x = first b (i + 3) n s in
     let w = split (get_or b i 0) (get_or b (i + 1) 0) (get_or b (i + 2) 0) (get_or b (i + 3) 0) (below b a i) (below b a (i + 1)) (below b a (i + 2)) (below b a (i + 3)) (take n (drop (i + 4) b)) in
-    cc
+    w ∙ grind (arith, first)
 
 pub laid_again : (ws : List Width) (b : List ℕ) (i : ℕ) → Bytes b → i + total ws ≤ length b → laid ws (fields ws b i) ≡ take (total ws) (drop i b)
 laid_again [] b i a h = refl
@@ -81,19 +52,13 @@ found four n before more h = rw (get_or-append_seam, get_or-append-add, get_or-a
 
 -- what is laid first goes over to what came before
 over : (w : Width) (n : ℕ) (laid more : List ℕ) → bytes w n laid ++ more ≡ bytes w n [] ++ (laid ++ more)
-over one n laid more = refl
-over two n laid more = refl
-over four n laid more = refl
+over w n laid more = search rules
 
 ahead : (w : Width) (n : ℕ) (laid more : List ℕ) → bytes w n laid ++ more ≡ bytes w n (laid ++ more)
-ahead one n laid more = refl
-ahead two n laid more = refl
-ahead four n laid more = refl
+ahead w n laid more = search rules
 
 long : (w : Width) (n : ℕ) → length (bytes w n []) ≡ size w
-long one n = refl
-long two n = refl
-long four n = refl
+long w n = search rules
 
 pub read_again : (ws : List Width) (vs before more : List ℕ) → Fit ws vs → fields ws (before ++ (laid ws vs ++ more)) (length before) ≡ vs
 read_again [] [] before more f = refl

@@ -1,11 +1,11 @@
 -- Frames written and read, and read and written, for any form of frame.
-use Rattle.std.proofs.Common.{◌≡◌, ℕ, ◌+◌, ◌<◌, ◌≤◌, Bool, true, false, cond, eqb, List, [], ◌∷◌, ◌++◌, length, get_or, take, drop, Some, None, Ok, Err, Option, Result, sym, refl, ap, ◌∙◌, arith, rules, length-append, take-append-drop}
+use Rattle.std.proofs.Common.{◌≡◌, ℕ, ◌+◌, ◌<◌, ◌≤◌, Bool, cond, eqb, List, [], ◌∷◌, ◌++◌, length, get_or, take, drop, Some, None, Ok, Err, Option, Result, sym, refl, ap, ◌∙◌, arith, rules, length-append, take-append-drop}
 use Rattle.std.proofs.lemmas.List.{drop_at}
 use Rattle.std.proofs.lemmas.Bool.Decides.{nat_tests}
 use Rattle.faults.specs.declared.layers.FrameFault.{FrameFault}
 use Rattle.faults.specs.declared.layers.FrameFault.TheVariants as fault
-use Rattle.wire.specs.Layouts.{Width, one, two, four, be16, size, bytes, total, fields, laid, Fit, Bytes}
-use Rattle.wire.specs.Reading.{header, announced, framed, head_of, Form, form_of, version_check, formed, after, found, read_at, read}
+use Rattle.wire.specs.Layouts.{Width, be16, size, bytes, total, fields, laid, Fit, Bytes}
+use Rattle.wire.specs.Reading.{header, announced, framed, head_of, Form, form_of, version_check, formed, after, found, read_at, read, read_by}
 use Rattle.wire.proofs.Laws.{laid_again, read_again}
 
 head_is : (b : List ℕ) (n : ℕ) → be16 b 0 ≡ n → 4 ≤ length b → n + 2 ≤ length b → head_of b ≡ Ok (Some n)
@@ -26,9 +26,7 @@ read_whole form v n b e u h k f =
     rw (head_is b n e l k, f, version_is b n h u, formed_is n v)
 
 field_length : (w : Width) (n : ℕ) (more : List ℕ) → length (bytes w n more) ≡ size w + length more
-field_length one n more = omega arith
-field_length two n more = omega arith
-field_length four n more = omega arith
+field_length w n more = grind arith
 
 laid_length : (ws : List Width) (vs : List ℕ) → Fit ws vs → length (laid ws vs) ≡ total ws
 laid_length [] vs f = refl
@@ -76,11 +74,7 @@ pub record Was {A : Type 0} (form : Option (Form A)) (v : A) (n : ℕ) (b : List
 
 same_form : {A : Type 0} (t : Bool) (f : Form A) (n : ℕ) (v : A) → eqb n f.length ≡ t → found (cond t (Ok f.value) (Err fault.Length)) ≡ Ok (Some v)
     → ◌≡◌ {A = Option (Form A)} (Some f) (Some (record { length = n; value = v }))
-same_form {A} true f n v e h =
-    let l : n ≡ f.length = grind (arith, nat_tests) in
-    let w : f.value ≡ v = cc in
-    ap (λ (x : ℕ). Some (record { length = x; value = f.value })) (sym l) ∙ ap (λ (y : A). Some (record { length = n; value = y })) w
-same_form false f n v e h = search rules
+same_form t f n v e h = grind (arith, nat_tests)
 
 form_was : {A : Type 0} (c : Result (Unit {0}) FrameFault) (form : Option (Form A)) (n : ℕ) (v : A) → found (after c (formed n form)) ≡ Ok (Some v)
     → (c ≡ Ok tt) × (form ≡ Some (record { length = n; value = v }))
@@ -105,14 +99,6 @@ was_read form v b e = go (head_of b) refl e
         let h = head_was b n e in
         (n, record { length_is = h.0; long = h.1; version = version_was b n t.0; form_is = t.1; rest = ap (λ (x : Result (Option ℕ) FrameFault). (read_at form b x).rest) e })
 
--- a form that is known is that of its kind
-pub kind_was : {K A : Type 0} (length : K → ℕ) (says : List ℕ → K → A) (b : List ℕ) (o : Option K) (n : ℕ) (v : A)
-    → form_of length says b o ≡ Some (record { length = n; value = v }) → (k : K) × ((o ≡ Some k) × ((n ≡ length k) × (says b k ≡ v)))
-kind_was length says b None n v e = search rules
-kind_was {A = A} length says b (Some k) n v e =
-    let g : ◌≡◌ {A = Form A} (record { length = length k; value = says b k }) (record { length = n; value = v }) = cc in
-    (k, (refl, (sym (ap (λ (x : Form A). x.length) g), ap (λ (x : Form A). x.value) g)))
-
 -- bytes that stand as a frame's are the frame and what is behind it
 pub stood : (code : ℕ) (ws : List Width) (vs b : List ℕ) → Bytes b → Stands code ws vs b → announced ws + 2 ≤ length b → b ≡ framed code ws vs ++ drop (announced ws + 2) b
 stood code ws vs b a s l =
@@ -122,3 +108,37 @@ stood code ws vs b a s l =
     let n : be16 b 0 ∷ get_or b 2 0 ∷ get_or b 3 0 ∷ fields ws b 4 ≡ announced ws ∷ 1 ∷ code ∷ vs = cc (s.length_is, s.version, s.kind, s.numbers) in
     let f : framed code ws vs ≡ take (announced ws + 2) b = sym (ap (laid (header ws)) n) ∙ m ∙ ap (λ k. take k b) t in
     sym (take-append-drop (announced ws + 2) b) ∙ ap (λ (x : List ℕ). x ++ drop (announced ws + 2) b) (sym f)
+
+-- a form that is known is that of its kind
+kind_was : {K A : Type 0} (length : K → ℕ) (says : List ℕ → K → A) (b : List ℕ) (o : Option K) (n : ℕ) (v : A)
+    → form_of length says b o ≡ Some (record { length = n; value = v }) → (k : K) × ((o ≡ Some k) × ((n ≡ length k) × (says b k ≡ v)))
+kind_was length says b None n v e = search rules
+kind_was {A = A} length says b (Some k) n v e =
+    let g : ◌≡◌ {A = Form A} (record { length = length k; value = says b k }) (record { length = n; value = v }) = cc in
+    (k, (refl, (sym (ap (λ (x : Form A). x.length) g), ap (λ (x : Form A). x.value) g)))
+
+-- Frames of any kinds: what is written in front of more is read again, and leaves the more.
+pub reads_again : {K A : Type 0} (kind : ℕ → Option K) (code : K → ℕ) (layout : K → List Width) (says : List ℕ → K → A) (v : A) (k : K) (vs more : List ℕ)
+    → kind (code k) ≡ Some k → code k < 256 → announced (layout k) < 65536 → Fit (layout k) vs → ((b : List ℕ) → fields (layout k) b 4 ≡ vs → says b k ≡ v)
+    → read_by kind (λ i. announced (layout i)) says (framed (code k) (layout k) vs ++ more) ≡ record { answer = Ok (Some v); rest = more }
+reads_again {K} {A} kind code layout says v k vs more o c a fit is =
+    let b : List ℕ = framed (code k) (layout k) vs ++ more in
+    let st = stands (code k) (layout k) vs more c a fit in
+    let known : kind (get_or b 3 0) ≡ Some k = ap kind st.kind ∙ o in
+    let form : form_of (λ i. announced (layout i)) says b (kind (get_or b 3 0)) ≡ Some (record { length = announced (layout k); value = v })
+    = ap (form_of (λ i. announced (layout i)) says b) known ∙ ap (λ (x : A). Some (record { length = announced (layout k); value = x })) (is b st.numbers) in
+    framed_reads (form_of (λ i. announced (layout i)) says b (kind (get_or b 3 0))) v (code k) (layout k) vs more c a fit form
+
+-- What is read was written as what it says, in front of what is left.
+pub reads_back : {K A : Type 0} (kind : ℕ → Option K) (code : K → ℕ) (layout : K → List Width) (says : List ℕ → K → A) (kind_in : A → K) (numbers : A → List ℕ)
+    → ((n : ℕ) (k : K) → kind n ≡ Some k → n ≡ code k) → ((b : List ℕ) (k : K) → kind_in (says b k) ≡ k) → ((b : List ℕ) (k : K) → fields (layout k) b 4 ≡ numbers (says b k))
+    → (b : List ℕ) (v : A) → Bytes b → (read_by kind (λ i. announced (layout i)) says b).answer ≡ Ok (Some v)
+    → b ≡ framed (code (kind_in v)) (layout (kind_in v)) (numbers v) ++ (read_by kind (λ i. announced (layout i)) says b).rest
+reads_back kind code layout says kind_in numbers told kind_at numbers_at b v a e =
+    let (n, w) = was_read (form_of (λ i. announced (layout i)) says b (kind (get_or b 3 0))) v b e in
+    let (k, (o, (l, is))) = kind_was (λ i. announced (layout i)) says b (kind (get_or b 3 0)) n v w.form_is in
+    let p : k ≡ kind_in v = sym (kind_at b k) ∙ ap kind_in is in
+    let s : Stands (code k) (layout k) (numbers v) b
+    = record { length_is = w.length_is ∙ l; version = w.version; kind = told (get_or b 3 0) k o; numbers = numbers_at b k ∙ ap numbers is } in
+    let r = stood (code k) (layout k) (numbers v) b a s (omega (arith, w.long, l)) in
+    rw (w.rest, l, ← p) r

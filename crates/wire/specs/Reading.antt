@@ -26,10 +26,14 @@ pub record Form (A : Type 0) : Type 0 where
   pub length : ℕ
   pub value : A
 
--- The form of a frame of that kind, by what its kind announces and what its bytes say.
+-- the form of a frame of that kind, by what its kind announces and what its bytes say
 abbrev pub form_of : {K A : Type 0} → (K → ℕ) → (List ℕ → K → A) → List ℕ → Option K → Option (Form A)
 form_of length says b None = None
 form_of length says b (Some k) = Some (record { length = length k; value = says b k })
+
+-- the form of the frame that begins the bytes: its code stands at 3
+abbrev pub form_at : {K A : Type 0} → (ℕ → Option K) → (K → ℕ) → (List ℕ → K → A) → List ℕ → Option (Form A)
+form_at kind length says b = form_of length says b (kind (slice_index b 3))
 
 -- The checks of a whole frame that announces n: a length under 2, the version, the kind, the kind's length.
 abbrev pub version_check : List ℕ → ℕ → Result (Unit {0}) FrameFault
@@ -65,5 +69,5 @@ abbrev pub read : {A : Type 0} → Option (Form A) → List ℕ → Read A
 read form b = read_at form b (head_of b)
 
 -- The next frame of the bytes that are left, by what its code tells, what its kind announces and what its bytes say.
-abbrev pub next : {K A : Type 0} → (ℕ → Option K) → (K → ℕ) → (List ℕ → K → A) → List ℕ → Read A
-next kind length says b = read (form_of length says b (kind (slice_index b 3))) b
+abbrev pub read_by : {K A : Type 0} → (ℕ → Option K) → (K → ℕ) → (List ℕ → K → A) → List ℕ → Read A
+read_by kind length says b = read (form_at kind length says b) b

@@ -1,5 +1,5 @@
 -- The frames of reports.
-use Rattle.std.specs.Prelude.{ℕ, cond, List, [], ◌∷◌, Some, None, Option, ◌==◌, slice_index}
+use Rattle.std.specs.Prelude.{ℕ, List, [], ◌∷◌, Option, slice_index}
 use Rattle.types.specs.declared.reports.Report.{Report}
 use Rattle.types.specs.declared.reports.ReportKind.{ReportKind}
 use Rattle.types.specs.declared.reports.ReportKind.TheVariants as kind

@@ -2,6 +2,7 @@
 ghost use Rattle.std.specs.Prelude.{◌≡◌, ◌+◌, ◌≤◌, length};
 ghost use Rattle.wire.specs.Layouts.{be16, be32, Layouts};
 
+// The library has no trait with `from_be_bytes`, and a generic function over one of our own would be no shorter than these two.
 pub(crate) fn half(b: &[u8], at: usize) -> u16
     requires { at + 2 ≤ length b.now }
     ensures { result ≡ be16 b.now at }

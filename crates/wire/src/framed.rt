@@ -1,6 +1,5 @@
 //! What can stand in a frame.
-ghost use Rattle.std.specs.Prelude.{◌≡◌, ℕ, ◌+◌, ◌≤◌, List, Option, length};
-ghost use Rattle.std.specs.Option.{ok_or};
+ghost use Rattle.std.specs.Prelude.{◌≡◌, ℕ, ◌+◌, ◌≤◌, List, Option, length, ok_or};
 ghost use Rattle.faults.specs.declared.layers.FrameFault.TheVariants as fault;
 
 use faults::FrameFault;

@@ -1,6 +1,5 @@
 //! What a call's frame says, before its codes are looked at.
-ghost use Rattle.std.specs.Prelude.{◌≡◌, ◌+◌, ◌≤◌, [], length};
-ghost use Rattle.std.specs.Option.{ok_or};
+ghost use Rattle.std.specs.Prelude.{◌≡◌, ◌+◌, ◌≤◌, [], length, ok_or};
 ghost use Rattle.faults.specs.declared.layers.FrameFault.TheVariants as fault;
 ghost use Rattle.wire.specs.Frames.{kind_of, layout, six, trader_from, quote_from, enter_from, call_at};
 ghost use Rattle.wire.specs.Layouts.{fields};
@@ -11,6 +10,7 @@ use crate::framed::Framed;
 use faults::FrameFault;
 use types::{Broker, Cancellation, OrderNumber, Price, Quote, TraderId};
 
+/// The kinds of calls, each with the code by which its frames tell it.
 #[derive(Clone, Copy, Debug, PartialEq, Eq)]
 pub enum CallKind {
     Enter = 1,
@@ -23,6 +23,7 @@ pub enum CallKind {
 }
 
 /// The fields of an entry as they stand in its frame, with any values.
+// A reader takes a frame whatever its codes mean, so they stay numbers here.
 #[derive(Clone, Copy, Debug, PartialEq, Eq)]
 pub struct EnterFrame {
     pub trader: TraderId,
@@ -38,6 +39,7 @@ pub struct EnterFrame {
 }
 
 /// The fields of an enrolment as they stand in its frame, with any values.
+// A reader takes a frame whatever its flag means, so it stays a number here.
 #[derive(Clone, Copy, Debug, PartialEq, Eq)]
 pub struct EnrolFrame {
     pub trader: TraderId,

@@ -1,6 +1,6 @@
 //! One frame after another from borrowed bytes.
-ghost use Rattle.std.specs.Prelude.{◌≡◌, ◌+◌, ◌≤◌, length, slice_index};
-ghost use Rattle.wire.specs.Reading.{head_of, version_check, whole, form_of, next};
+ghost use Rattle.std.specs.Prelude.{◌≡◌, ◌+◌, ◌≤◌, length};
+ghost use Rattle.wire.specs.Reading.{head_of, version_check, whole, form_at, read_by};
 ghost use Rattle.wire.specs.Frames.{read_call};
 ghost use Rattle.wire.specs.Reports.{read_report};
 
@@ -41,10 +41,10 @@ fn check_version(b: &[u8], announced: u16) -> Result<(), FrameFault>
     }
 }
 
-/// What a whole frame says whose first four bytes announce so many more.
+/// What a whole frame says that announces so many bytes behind its length.
 fn whole<F: Framed>(b: &[u8], announced: u16) -> Result<F, FrameFault>
     requires { (4 ≤ length b.now) × (announced + 2 ≤ length b.now) }
-    ensures { result ≡ whole b.now announced (form_of F.length_of F.said b.now (F.kind_told (slice_index b.now 3))) }
+    ensures { result ≡ whole b.now announced (form_at F.kind_told F.length_of F.said b.now) }
 {
     check_version(b, announced)?;
     let kind = F::kind(b[3])?;
@@ -75,9 +75,9 @@ impl<'a> FrameReader<'a> {
     }
 
     /// The next frame; none at the end of the bytes.
-    fn next<F: Framed>(&mut self) -> Result<Option<F>, FrameFault>
-        ensures answer { result ≡ (next F.kind_told F.length_of F.said self.old.rest.now).answer }
-        ensures rest { self.new.rest.now ≡ (next F.kind_told F.length_of F.said self.old.rest.now).rest }
+    fn next_frame<F: Framed>(&mut self) -> Result<Option<F>, FrameFault>
+        ensures answer { result ≡ (read_by F.kind_told F.length_of F.said self.old.rest.now).answer }
+        ensures rest { self.new.rest.now ≡ (read_by F.kind_told F.length_of F.said self.old.rest.now).rest }
     {
         let b = self.rest;
         let Some(announced) = head_of(b)? else {
@@ -93,7 +93,7 @@ impl<'a> FrameReader<'a> {
         ensures answer { result ≡ (read_call self.old.rest.now).answer }
         ensures rest { self.new.rest.now ≡ (read_call self.old.rest.now).rest }
     {
-        self.next()
+        self.next_frame()
     }
 
     /// The next frame as a report's; none at the end of the bytes.
@@ -101,6 +101,6 @@ impl<'a> FrameReader<'a> {
         ensures answer { result ≡ (read_report self.old.rest.now).answer }
         ensures rest { self.new.rest.now ≡ (read_report self.old.rest.now).rest }
     {
-        self.next()
+        self.next_frame()
     }
 }

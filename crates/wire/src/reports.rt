@@ -38,6 +38,7 @@ impl Framed for Report {
 }
 
 /// A report's frame.
+// Neither a report nor an array is of this crate, so this is a function and no conversion.
 pub fn report_bytes(report: Report) -> [u8; 21]
     ensures { result ≡ report_bytes report }
 {

@@ -54,11 +54,10 @@ fn cancel_bytes(cancellation: Cancellation) -> [u8; 14]
 }
 
 fn quote_bytes(kind: CallKind, quote: Quote) -> [u8; 12]
-    requires { layout kind ≡ layout CallKind.Quote }
     ensures { result ≡ framed_quote (kind_code kind) quote }
 {
     let mut bytes = [0; 12];
-    bytes[0..4].copy_from_slice(&head(kind));
+    bytes[0..4].copy_from_slice(&[0, 10, 1, kind as u8]);
     bytes[4..8].copy_from_slice(&Price::or_zero(quote.bid).to_be_bytes());
     bytes[8..12].copy_from_slice(&Price::or_zero(quote.offer).to_be_bytes());
     bytes

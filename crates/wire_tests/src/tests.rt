@@ -10,19 +10,13 @@ use words::Dollars;
 
 /// Number, layer and place of a refusal, as one number each.
 fn told(refusal: Refusal) -> (u8, u8, u32) {
-    (
-        refusal.reason.number(),
-        refusal.layer.number(),
-        refusal.place,
-    )
+    (refusal.reason.into(), refusal.layer.into(), refusal.place)
 }
 
 fn first_refusal(bytes: &[u8]) -> Option<(u8, u8, u32)> {
     let mut frames = FrameReader::new(bytes);
-    match next_call(&mut frames, Lot::Hundred) {
-        Err(fault) => Some(told(fault.refusal())),
-        Ok(_) => None,
-    }
+    let fault = next_call(&mut frames, Lot::Hundred).err()?;
+    Some(told(fault.into()))
 }
 
 #[test]
@@ -41,7 +35,7 @@ fn nothing_is_the_end(rt: HostRuntime) -> Result<(), Fail> {
 fn three_bytes_are_short_and_stay(rt: HostRuntime) -> Result<(), Fail> {
     let mut frames = FrameReader::new(&[0, 0, 1]);
     match next_call(&mut frames, Lot::Hundred) {
-        Err(fault) => assert_eq!(rt; told(fault.refusal()), (1, 1, 0)),
+        Err(fault) => assert_eq!(rt; told(fault.into()), (1, 1, 0)),
         Ok(_) => return Err(Fail::new("three bytes are short")),
     }
     assert_eq!(rt; frames.bytes_left(), 3);
@@ -154,7 +148,7 @@ fn blank_is_no_report(rt: HostRuntime) -> Result<(), Fail> {
     let mut frames = FrameReader::new(&bytes);
     match frames.next_report() {
         Err(fault) => {
-            assert_eq!(rt; told(FieldFault::Frame(fault).refusal()), (3, 1, 3));
+            assert_eq!(rt; told(FieldFault::Frame(fault).into()), (3, 1, 3));
             Ok(())
         },
         Ok(_) => Err(Fail::new("kind 0 is refused")),

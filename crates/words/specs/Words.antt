@@ -6,7 +6,7 @@ use Rattle.faults.specs.Refusals.{number_of, layer_number}
 use Rattle.names.specs.Names.{reason_word}
 
 -- a quarter cent is 25 ten-thousandths of a dollar: dollars, a point and four decimals
-abbrev pub dollars : ℕ → List ℕ
+unfoldable pub dollars : ℕ → List ℕ
 dollars q =
     let n = q * 25 in
     decimal (n / 10000) ++ (codes "." ++ (decimal (n / 1000 % 10) ++ (decimal (n / 100 % 10) ++ (decimal (n / 10 % 10) ++ decimal (n % 10)))))

@@ -1,15 +1,16 @@
 //! A line for a call, and one for a refusal.
 ghost use Rattle.std.specs.Prelude.{Some};
 ghost use Rattle.words.specs.Words.{refusal_words};
-ghost use Rattle.words.specs.Lines.{trader_words, order_words, number_words, call_words};
+ghost use Rattle.words.specs.Lines.{trader_words, call_words};
 
 use crate::money::{Dollars, QuoteSide};
 use codes::Coded;
 use faults::Refusal;
-use names::{flag_word, kind_word, marks_word, reason_word, side_word, term_word};
+use names::Worded;
 use std::fmt;
-use types::{Call, Entry, TraderId};
+use types::{Call, Quote, TraderId};
 
+// A trader's type is declared elsewhere, so what prints it is a wrapper.
 #[derive(Clone, Copy)]
 struct TraderWords {
     trader: TraderId,
@@ -20,17 +21,13 @@ impl fmt::Display for TraderWords {
 
     fn fmt<W: fmt::Write>(&self, f: &mut fmt::Formatter<W>) -> fmt::Result {
         let [a, b, c, d, e, g] = self.trader.letters;
-        let a = char::from(a);
-        let b = char::from(b);
-        let c = char::from(c);
-        let d = char::from(d);
-        let e = char::from(e);
-        let g = char::from(g);
+        let (a, b, c) = (char::from(a), char::from(b), char::from(c));
+        let (d, e, g) = (char::from(d), char::from(e), char::from(g));
         write!(f, "trader {a}{b}{c}{d}{e}{g}")
     }
 }
 
-#[derive(Clone, Copy)]
+#[derive(Clone, Copy, Debug, PartialEq, Eq)]
 pub struct RefusalLine {
     pub refusal: Refusal,
 }
@@ -39,59 +36,20 @@ impl fmt::Display for RefusalLine {
     ghost output = { λ l. Some (refusal_words l.refusal) };
 
     fn fmt<W: fmt::Write>(&self, f: &mut fmt::Formatter<W>) -> fmt::Result {
-        let number = self.refusal.reason.number();
-        let name = reason_word(self.refusal.reason);
-        let layer = self.refusal.layer.number();
-        let place = self.refusal.place;
-        write!(f, "refused {number} {name} layer {layer} place {place}")
-    }
-}
-
-#[derive(Clone, Copy)]
-struct OrderWords {
-    entry: Entry,
-}
-
-impl fmt::Display for OrderWords {
-    ghost output = { λ w. Some (order_words w.entry) };
-
-    fn fmt<W: fmt::Write>(&self, f: &mut fmt::Formatter<W>) -> fmt::Result {
-        let trader = TraderWords {
-            trader: self.entry.trader,
-        };
-        let side = side_word(self.entry.side);
-        let kind = kind_word(self.entry.kind);
-        let term = term_word(self.entry.term);
-        let marks = marks_word(self.entry.marks);
-        write!(f, "{trader} {side} {kind} {term} marks {marks}")
-    }
-}
-
-#[derive(Clone, Copy)]
-struct NumberWords {
-    entry: Entry,
-}
-
-impl fmt::Display for NumberWords {
-    ghost output = { λ w. Some (number_words w.entry) };
-
-    fn fmt<W: fmt::Write>(&self, f: &mut fmt::Formatter<W>) -> fmt::Result {
-        let limit = Dollars {
-            price: self.entry.limit,
-        };
-        let volume = self.entry.volume.shares;
-        let display = self.entry.display.shares;
-        let instruction = self.entry.instruction.code();
-        let key = self.entry.key.number;
+        let refusal = self.refusal;
         write!(
             f,
-            "limit {limit} volume {volume} display {display} instruction {instruction} key {key}"
+            "refused {} {} layer {} place {}",
+            u8::from(refusal.reason),
+            refusal.reason.word(),
+            u8::from(refusal.layer),
+            refusal.place
         )
     }
 }
 
 /// A call in words and dollars.
-#[derive(Clone, Copy)]
+#[derive(Clone, Copy, Debug, PartialEq, Eq)]
 pub struct CallLine {
     pub call: Call,
 }
@@ -101,38 +59,60 @@ impl fmt::Display for CallLine {
 
     fn fmt<W: fmt::Write>(&self, f: &mut fmt::Formatter<W>) -> fmt::Result {
         match self.call {
+            // In two writes, since the proof of one with all eleven parts did not close.
             Call::Enter(entry) => {
-                let order = OrderWords { entry };
-                let numbers = NumberWords { entry };
-                write!(f, "enter {order} {numbers}")
+                write!(
+                    f,
+                    "enter {} {} {} {} marks {}",
+                    TraderWords {
+                        trader: entry.trader
+                    },
+                    entry.side.word(),
+                    entry.kind.word(),
+                    entry.term.word(),
+                    entry.marks.word()
+                )?;
+                write!(
+                    f,
+                    " limit {} volume {} display {} instruction {} key {}",
+                    Dollars { price: entry.limit },
+                    entry.volume.shares,
+                    entry.display.shares,
+                    entry.instruction.code(),
+                    entry.key.number
+                )
             }
-            Call::Cancel(cancellation) => {
-                let trader = TraderWords {
-                    trader: cancellation.trader,
-                };
-                let order = cancellation.order.number;
-                write!(f, "cancel {trader} order {order}")
-            }
-            Call::Quote(quote) => {
-                let bid = QuoteSide { price: quote.bid };
-                let offer = QuoteSide { price: quote.offer };
-                write!(f, "quote bid {bid} offer {offer}")
-            }
+            Call::Cancel(cancellation) => write!(
+                f,
+                "cancel {} order {}",
+                TraderWords {
+                    trader: cancellation.trader
+                },
+                cancellation.order.number
+            ),
+            Call::Quote(Quote { bid, offer }) => write!(
+                f,
+                "quote bid {} offer {}",
+                QuoteSide { price: bid },
+                QuoteSide { price: offer }
+            ),
             Call::Halt => write!(f, "halt"),
-            Call::Resume(quote) => {
-                let bid = QuoteSide { price: quote.bid };
-                let offer = QuoteSide { price: quote.offer };
-                write!(f, "resume bid {bid} offer {offer}")
-            }
+            Call::Resume(Quote { bid, offer }) => write!(
+                f,
+                "resume bid {} offer {}",
+                QuoteSide { price: bid },
+                QuoteSide { price: offer }
+            ),
             Call::Close => write!(f, "close"),
-            Call::Enrol(enrolment) => {
-                let trader = TraderWords {
-                    trader: enrolment.trader,
-                };
-                let broker = enrolment.broker.number;
-                let lst = flag_word(enrolment.latency_sensitive);
-                write!(f, "enrol {trader} broker {broker} lst {lst}")
-            }
+            Call::Enrol(enrolment) => write!(
+                f,
+                "enrol {} broker {} lst {}",
+                TraderWords {
+                    trader: enrolment.trader
+                },
+                enrolment.broker.number,
+                enrolment.latency_sensitive.word()
+            ),
         }
     }
 }

@@ -6,7 +6,7 @@ use std::fmt;
 use types::Price;
 
 /// A price, shown in dollars with four decimals.
-#[derive(Clone, Copy)]
+#[derive(Clone, Copy, Debug, PartialEq, Eq)]
 pub struct Dollars {
     pub price: Price,
 }
@@ -14,19 +14,15 @@ pub struct Dollars {
 impl fmt::Display for Dollars {
     ghost output = { λ d. Some (dollars d.price.quarters) };
 
+    #[tactic(auto, using(crate::proofs::Digits::four_decimals), unfolding(crate::specs::Words::dollars))]
     fn fmt<W: fmt::Write>(&self, f: &mut fmt::Formatter<W>) -> fmt::Result {
         let all = u64::from(self.price.quarters) * 25;
-        let whole = all / 10000;
-        let a = all / 1000 % 10;
-        let b = all / 100 % 10;
-        let c = all / 10 % 10;
-        let d = all % 10;
-        write!(f, "{whole}.{a}{b}{c}{d}")
+        write!(f, "{}.{:04}", all / 10_000, all % 10_000)
     }
 }
 
 /// A side of a quote, shown in dollars, or as a dash where it is missing.
-#[derive(Clone, Copy)]
+#[derive(Clone, Copy, Debug, PartialEq, Eq)]
 pub struct QuoteSide {
     pub price: Option<Price>,
 }
@@ -37,10 +33,7 @@ impl fmt::Display for QuoteSide {
     fn fmt<W: fmt::Write>(&self, f: &mut fmt::Formatter<W>) -> fmt::Result {
         match self.price {
             None => write!(f, "-"),
-            Some(price) => {
-                let dollars = Dollars { price };
-                write!(f, "{dollars}")
-            }
+            Some(price) => write!(f, "{}", Dollars { price }),
         }
     }
 }

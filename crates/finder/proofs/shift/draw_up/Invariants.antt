@@ -1,8 +1,10 @@
-use Rattle.finder.proofs.Shifts.{Shift, left}
+use Rattle.std.proofs.Common.{length}
+use Rattle.finder.proofs.Distances.{away}
+use Rattle.finder.proofs.Shifts.{Drawn}
 use Rattle.finder.proofs.shift.draw_up.Given as goal
 
-abbrev pub invariant-loop-j : goal.invariant-loop-j
-invariant-loop-j g l = Shift g.K.Key.equal g.met.K.Key.decides g.K.Key.number l.initial.cells l.n l.cells l.hole l.j
+abbrev pub invariant-loop-p : goal.invariant-loop-p
+invariant-loop-p g l = Drawn g.K.PartialEq.eq g.met.K.Key.decides g.K.Key.number l.initial.cells l.cells l.hole
 
-abbrev pub decreases-loop-j : goal.decreases-loop-j
-decreases-loop-j g l = left g.K.Key.equal g.met.K.Key.decides g.K.Key.number l.n l.cells l.hole l.j
+abbrev pub decreases-loop-p : goal.decreases-loop-p
+decreases-loop-p g l = away g.K.Key.number (length l.cells) l.cells

@@ -1,47 +1,33 @@
-use Rattle.std.proofs.Common.{◌<◌, ◌++◌, map, length, take, drop, set, sym, ap, ◌∙◌, append-nil, arith, length-drop, get_or-take, drop-set-lt}
-use lib.Seq.{take-set-lt}
+use Rattle.std.proofs.Common.{◌≡◌, ◌<◌, length, set, Some, None, sym, ap, ◌∙◌, arith}
+use Rattle.std.specs.Option.{option_map}
 use Rattle.std.proofs.lemmas.List.Edits.{map_over_more}
-use Rattle.std.proofs.lemmas.List.{get_or_default, take_all, drop_all}
-use Rattle.table.specs.Sequence.{blank_record, record_at, stamped, earlier}
-use Rattle.guard.specs.Renumbering.{ranked, renumbered}
-use Rattle.guard.proofs.Parts.{kept_put}
+use Rattle.std.proofs.lemmas.List.{get_or_default, set-get_or}
+use Rattle.guard.specs.Renumbering.{ranked}
 use Rattle.guard.proofs.renumbering.renumber.Goals as goal
+use Rattle.guard.proofs.renumbering.renumber.Goals.{in-Some, in_default}
 
 pub loop-i-preserved : goal.loop-i-preserved
 loop-i-preserved c =
-    let n = c.args.n in
-    let s = drop n c.args.all.now in
-    let all = c.loop-i.all in
-    let i = c.loop-i.i in
-    let x = record_at all i in
-    let v = stamped c.earlier_in_spare.result x in
-    let inv = c.loop-i.invariant in
-    let both = inv.2.halves in
-    let here : i < n = omega arith in
-    let was = c.requires.kept.halves in
-    let long : i < length s = omega (arith, length-drop n c.args.all.now) in
-    let rank = c.earlier_in_spare.ensures ∙ ap (λ l. earlier l x.time) inv.1 in (
-      take-set-lt n all i v here
-          ∙ ap (λ t. set (take n all) i (stamped t x)) rank
-          ∙ map_over_more (ranked s) s (take n all) i x long inv.0 (get_or_default all i blank_record x (omega arith) ∙ sym (get_or-take n all i x here)),
-      drop-set-lt n all i v here ∙ inv.1,
-      kept_put n all c.loop-i.journal c.note.new.self i v here c.note.ensures inv.2,
-    )
-
-pub returns : goal.returns
-returns c =
-    let n = c.args.n in
-    let s = drop n c.args.all.now in
+    let spare = c.args.spare.now in
+    let old = c.args.table.now in
+    let table = c.loop-i.table in
     let i = c.loop-i.i in
     let inv = c.loop-i.invariant in
-    let both = c.requires.kept.halves in
-    let long = length-drop n c.args.all.now in
-    record {
-      table = inv.0
-          ∙ ap (λ l. map (ranked s) l ++ drop i s) (take_all i s (omega arith))
-          ∙ ap (λ l. map (ranked s) s ++ l) (drop_all i s (omega arith))
-          ∙ append-nil (map (ranked s) s)
-          ∙ ap renumbered c.requires.same;
-      spare = inv.1;
-      kept = inv.2;
-    }
+    let within : i < length old = omega arith in
+    let long : length table ≡ length old = c.loop-i.auto.table in
+    let here : i < length table = omega arith in
+    elim c.match-place.branch [
+      | in-Some w ↦
+          (let order = w.in-Some.order in
+          record {
+            table = w.table-is ∙ ap (λ t. set table i (Some (record { time = t; drawn = order.drawn; resting = order.resting }))) w.earlier.ensures
+                ∙ map_over_more (option_map (ranked spare)) old table i (Some order) within inv.table (sym w.in-Some.is ∙ get_or_default table i None (Some order) here);
+            moved = λ s a. rw (w.table-is, w.journal-is) (w.note.ensures (length old) table s (Some (record { time = w.earlier.result; drawn = order.drawn; resting = order.resting })) within long (inv.moved s a));
+          })
+      | in_default w ↦
+          record {
+            table = w.table-is ∙ ap (set table i) w.in_default.is
+                ∙ map_over_more (option_map (ranked spare)) old table i None within inv.table (sym w.in_default.is);
+            moved = λ s a. rw (w.table-is ∙ set-get_or table i None, w.journal-is) (inv.moved s a);
+          }
+    ]
