@@ -63,18 +63,20 @@ loop-place-preserved c =
           (adds_more inv.adds (subst (λ (r : OrderRecord). Adds c.loop-place.sheet c.cancel.new.sheet (cancelled_at_close r.resting ∷ [])) same e.adds));
     }
 
-pub returns : goal.returns
-returns c =
+pub returns-clause-table : goal.returns-clause-table
+returns-clause-table c =
     let start = c.args.table.now.places.now in
     let os = c.loop-place.table.places.now in
+    all_freed os (subst (Left start os) (drop_all c.loop-place.place-index c.collect-places.result.now (omega arith)) c.loop-place.invariant.left)
+
+pub returns-clause-list : goal.returns-clause-list
+returns-clause-list c =
+    let start = c.args.table.now.places.now in
+    let os = c.loop-place.table.places.now in
+    no_orders os (subst (Left start os) (drop_all c.loop-place.place-index c.collect-places.result.now (omega arith)) c.loop-place.invariant.left)
+
+pub returns-clause-adds : goal.returns-clause-adds
+returns-clause-adds c =
+    let start = c.args.table.now.places.now in
     let ps = c.collect-places.result.now in
-    let k = c.loop-place.place-index in
-    let inv = c.loop-place.invariant in
-    let empty : [] ≡ in_sequence os = subst (Left start os) (drop_all k ps (omega arith)) inv.left in
-    record {
-      table = all_freed os empty;
-      list = no_orders os empty;
-      times = inv.times;
-      written = inv.written;
-      adds = adds_same (ap (map (close_report start)) (take_all k ps (omega arith)) ∙ all_reports start ps c.collect-places.ensures.turns) inv.adds;
-    }
+    adds_same (ap (map (close_report start)) (take_all c.loop-place.place-index ps (omega arith)) ∙ all_reports start ps c.collect-places.ensures.turns) c.loop-place.invariant.adds
