@@ -25,6 +25,7 @@ pub fn fresh(n: usize) -> Journal
     }
 }
 
+// `start` and `undo` take slice, journal and length apart, since there is no guard before the one and none after the other; they differ in the direction of the one copy.
 /// The start of a call: the spare becomes the table as the call finds it, and nothing is noted.
 pub fn start(all: &mut [Option<OrderRecord>], journal: &mut Journal, n: usize)
     requires { Kept n all.old journal.old }
