@@ -6,10 +6,11 @@ mod journals;
 mod order_table;
 mod records;
 
-ghost use Rattle.std.specs.Prelude.{◌≡◌, ℕ, ◌+◌, ◌<◌, ◌≤◌, true, false, [], length, None, IfSome, IfNone, replicate, slice_set};
+ghost use Rattle.std.specs.Prelude.{◌≡◌, ℕ, ◌+◌, ◌<◌, ◌≤◌, true, false, [], length, is_some, None, IfSome, IfNone, nat_lt, replicate, slice_set};
 ghost use Rattle.table.specs.Sequence.{rests_at, resting_of};
 ghost use Rattle.table.specs.Noting.{Moved};
-ghost use Rattle.table.specs.Places.{Sound};
+ghost use Rattle.table.specs.Places.{Sound, Found};
+ghost use Rattle.table.specs.Walking.{FirstFrom};
 
 pub use ends::Ends;
 pub use journals::Journal;
@@ -53,6 +54,33 @@ fn highest(places: &[Option<OrderRecord>], high: usize) -> usize
         .iter()
         .rposition(Option::is_some)
         .map_or(0, |i| i + 1)
+}
+
+/// The first free place; there is one exactly where fewer orders rest than the table has places.
+pub fn first_free(places: &[Option<OrderRecord>], ends: Ends) -> Option<usize>
+    requires { Sound places.now ends }
+    ensures found { Found places.now result }
+    ensures room { is_some result ≡ nat_lt (length (resting_of places.now)) (length places.now) }
+{
+    let free = first_none(&places[ends.low..])?;
+    Some(ends.low + free)
+}
+
+/// The place of the first order on the time list whose timestamp is not earlier than `time`.
+pub fn first_from(places: &[Option<OrderRecord>], ends: Ends, time: u64) -> Option<usize>
+    requires { Sound places.now ends }
+    ensures { FirstFrom places.now time result }
+{
+    let mut first: Option<(usize, u64)> = None;
+    for (i, place) in places[..ends.high].iter().enumerate() {
+        if let Some(order) = place
+            && time <= order.time
+            && first.is_none_or(|(_, least)| order.time < least)
+        {
+            first = Some((i, order.time));
+        }
+    }
+    first.map(|(i, _)| i)
 }
 
 /// Sets every place free.

@@ -1,7 +1,7 @@
 //! The table with what belongs to it.
 ghost use Rattle.table.specs.Places.{Sound};
 
-use crate::{Ends, Journal, OrderRecord, first_none, highest, write};
+use crate::{Ends, Journal, OrderRecord, first_free, first_from, highest, write};
 use types::RestingOrder;
 
 /// The places of a table, the journal of the writes to them, and its ends, which are true of them.
@@ -34,9 +34,7 @@ impl OrderTable<'_> {
         ensures found { Found self.now.places.now result }
         ensures room { is_some result ≡ nat_lt (length (resting_of self.now.places.now)) (length self.now.places.now) }
     {
-        let low = self.ends.low;
-        let free = first_none(&self.places[low..])?;
-        Some(low + free)
+        first_free(self.places, self.ends)
     }
 
     /// Puts an order at the first free place, which it answers, and at the end of the time list.
@@ -119,15 +117,6 @@ impl OrderTable<'_> {
     pub fn first_from(&self, time: u64) -> Option<usize>
         ensures { FirstFrom self.now.places.now time result }
     {
-        let mut first: Option<(usize, u64)> = None;
-        for (i, place) in self.places[..self.ends.high].iter().enumerate() {
-            if let Some(order) = place
-                && time <= order.time
-                && first.is_none_or(|(_, least)| order.time < least)
-            {
-                first = Some((i, order.time));
-            }
-        }
-        first.map(|(i, _)| i)
+        first_from(self.places, self.ends, time)
     }
 }
