@@ -12,7 +12,7 @@ ghost use Rattle.table.specs.Sequence.{rests_at, record_at, resting_of, rank};
 ghost use Rattle.table.specs.Writing.{Written};
 ghost use Rattle.turns.specs.Turns.{AllFreed, VolumesFit, Numbered};
 
-use crate::collecting::collect;
+use crate::collecting::collect_on;
 use crate::picks::EveryOrder;
 use sheet::EventSheet;
 use slips::Slip;
@@ -52,7 +52,8 @@ pub fn cancel_all(table: &mut OrderTable<'_>, turns: &mut [u16], sheet: &mut Eve
     ensures written { Written table.old table.new }
     ensures adds { Adds sheet.old sheet.new (map cancelled_at_close (resting_of table.old.places.now)) }
 {
-    let places = collect(&EveryOrder, table, turns);
+    let count = collect_on(&EveryOrder, table, turns);
+    let places = &turns[..count];
     for &place in places {
         cancel(table, place as usize, CancelReason::Close, sheet);
     }

@@ -16,11 +16,11 @@ use Rattle.turns.proofs.cancelling.cancel_all.Goals as goal
 pub loop-place-init : goal.loop-place-init
 loop-place-init c =
     let t = c.args.table.now in
-    let turns = c.collect-places.ensures.turns in
+    let turns = c.collect_on-count.ensures.turns in
     record {
       times = omega arith;
       written = written_none t;
-      rewritten = rewritten_none _ c.collect-places.result.now t.places.now;
+      rewritten = rewritten_none _ (take c.collect_on-count.result c.collect_on-count.new.turns) t.places.now;
       left = turns.records ∙ every_kept (in_sequence t.places.now);
       adds = adds_none c.args.sheet.now;
     }
@@ -28,16 +28,17 @@ loop-place-init c =
 pub cancel-requires : goal.cancel-requires
 cancel-requires c =
     let start = c.args.table.now.places.now in
-    let ps = c.collect-places.result.now in
+    let ps = (take c.collect_on-count.result c.collect_on-count.new.turns) in
     let k = c.loop-place.place-index in
     let p = get_or ps k 0 in
     let inv = c.loop-place.invariant in
-    let turn = turn_at (λ _ _. None) ps start c.loop-place.table.places.now k inv.rewritten every (omega arith) c.collect-places.ensures.turns in
+    let turn = turn_at (λ _ _. None) ps start c.loop-place.table.places.now k inv.rewritten every (omega arith) c.collect_on-count.ensures.turns in
+    let all = length-take-le c.collect_on-count.result c.collect_on-count.new.turns (omega (arith, c.requires.room, c.collect_on-count.ensures.count, c.collect_on-count.auto.turns)) in
     let many : length (map (close_report start) (take k ps)) ≡ k = length-map (take k ps) (close_report start) ∙ length-take-le k ps (omega arith) in
     record {
       rests = turn.rests;
-      fits = subst (λ (r : OrderRecord). volume_of r.resting < 2 ^ 32) (sym (ap held turn.same)) (c.requires.fits p (c.collect-places.ensures.turns.rests k (omega arith)));
-      space = omega (arith, inv.adds.counted, many, c.requires.space, c.collect-places.ensures.count);
+      fits = subst (λ (r : OrderRecord). volume_of r.resting < 2 ^ 32) (sym (ap held turn.same)) (c.requires.fits p (c.collect_on-count.ensures.turns.rests k (omega arith)));
+      space = omega (arith, inv.adds.counted, many, all, c.requires.space, c.collect_on-count.ensures.count);
     }
 
 pub loop-place-preserved : goal.loop-place-preserved
@@ -45,12 +46,12 @@ loop-place-preserved c =
     let start = c.args.table.now.places.now in
     let t = c.loop-place.table in
     let os = t.places.now in
-    let ps = c.collect-places.result.now in
+    let ps = (take c.collect_on-count.result c.collect_on-count.new.turns) in
     let k = c.loop-place.place-index in
     let p = get_or ps k 0 in
     let inv = c.loop-place.invariant in
     let e = c.cancel.ensures in
-    let turn = turn_at (λ _ _. None) ps start os k inv.rewritten every (omega arith) c.collect-places.ensures.turns in
+    let turn = turn_at (λ _ _. None) ps start os k inv.rewritten every (omega arith) c.collect_on-count.ensures.turns in
     let within = rests_within os p turn.rests in
     let same : record_at os p ≡ record_at start p = ap held turn.same in
     record {
@@ -67,16 +68,16 @@ pub returns-clause-table : goal.returns-clause-table
 returns-clause-table c =
     let start = c.args.table.now.places.now in
     let os = c.loop-place.table.places.now in
-    all_freed os (subst (Left start os) (drop_all c.loop-place.place-index c.collect-places.result.now (omega arith)) c.loop-place.invariant.left)
+    all_freed os (subst (Left start os) (drop_all c.loop-place.place-index (take c.collect_on-count.result c.collect_on-count.new.turns) (omega arith)) c.loop-place.invariant.left)
 
 pub returns-clause-list : goal.returns-clause-list
 returns-clause-list c =
     let start = c.args.table.now.places.now in
     let os = c.loop-place.table.places.now in
-    no_orders os (subst (Left start os) (drop_all c.loop-place.place-index c.collect-places.result.now (omega arith)) c.loop-place.invariant.left)
+    no_orders os (subst (Left start os) (drop_all c.loop-place.place-index (take c.collect_on-count.result c.collect_on-count.new.turns) (omega arith)) c.loop-place.invariant.left)
 
 pub returns-clause-adds : goal.returns-clause-adds
 returns-clause-adds c =
     let start = c.args.table.now.places.now in
-    let ps = c.collect-places.result.now in
-    adds_same (ap (map (close_report start)) (take_all c.loop-place.place-index ps (omega arith)) ∙ all_reports start ps c.collect-places.ensures.turns) c.loop-place.invariant.adds
+    let ps = (take c.collect_on-count.result c.collect_on-count.new.turns) in
+    adds_same (ap (map (close_report start)) (take_all c.loop-place.place-index ps (omega arith)) ∙ all_reports start ps c.collect_on-count.ensures.turns) c.loop-place.invariant.adds
