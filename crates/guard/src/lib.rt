@@ -54,7 +54,7 @@ pub fn undo(all: &mut [Option<OrderRecord>], journal: &mut Journal, n: usize)
 pub struct Guard<'a> {
     pub all: &'a mut [Option<OrderRecord>],
     pub journal: &'a mut Journal,
-    // Table and spare are one piece of lent memory, so the length of a half stands beside it.
+    // Callers' clauses name the length of a half: table and spare are one piece of lent memory.
     pub n: usize,
     pub ghost kept: { Kept n all.now journal.now },
 }

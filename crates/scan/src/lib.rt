@@ -131,6 +131,7 @@ impl<R: Priority> ActiveOrder<'_, R> {
         }
         best
     }
+
     /// The slice of a table that the order meets next.
     pub fn next_slice(&self, table: &OrderTable<'_>) -> Option<Candidate>
         ensures leads { Leading (R.Priority.rule self.now.rule.now) self.now.view.now self.now.order.now table.now.places.now (below table.now.ends.high) result }
