@@ -17,7 +17,7 @@ pub use journals::Journal;
 pub use order_table::OrderTable;
 pub use records::OrderRecord;
 
-/// Writes to a place, and notes it: but for `clear`, the one way to change the table. It knows nothing of the ends, which a method of the table sees to.
+/// Writes to a place, and notes it: but for `clear` and the guard, the one way to change the table. It knows nothing of the ends, which a method of the table sees to.
 pub fn write(
     places: &mut [Option<OrderRecord>],
     journal: &mut Journal,
