@@ -43,6 +43,7 @@ pub fn value_at<K: Copy, V: Copy>(cells: &[Cell<K, V>], p: usize) -> Option<V>
     cells[p].map(|(_, value)| value)
 }
 
+// A shared slice makes no finder, so the search of a slice stands beside a finder's method.
 /// What the key finds.
 pub fn find<K: Key, V: Copy>(cells: &[Cell<K, V>], key: &K) -> Option<V>
     requires { Sound K.number cells.now }
@@ -51,6 +52,7 @@ pub fn find<K: Key, V: Copy>(cells: &[Cell<K, V>], key: &K) -> Option<V>
     value_at(cells, locate(cells, key).ok()?)
 }
 
+// For cells that no finder holds yet; a finder's `new` and `clear` go by it.
 /// Sets every place free, whatever the cells hold.
 pub fn clear<K: Key, V: Copy>(cells: &mut [Cell<K, V>])
     ensures sound { Sound K.number cells.new }

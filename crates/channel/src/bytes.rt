@@ -32,6 +32,7 @@ fn frame(report: Report) -> [u8; 21]
     report_bytes(report)
 }
 
+// `ReportList` does the same with records: another memory, and so bodies of its own.
 impl Channel for ReportBytes<'_> {
     ghost list = { λ s. reports_in s.frames s.bytes.now };
 

@@ -37,6 +37,7 @@ impl<P: Channel, Q: Channel> Channel for DropCopy<P, Q> {
 }
 
 impl<P: Channel, Q: Channel> DropCopy<P, Q> {
+    // The free `put_all` does it; this one says what came to the copy as well.
     /// Appends all of the reports to both, or none to either where one has less space than reports.
     pub fn put_all(&mut self, reports: &[Report]) -> Result<(), ChannelFault>
         ensures sent { Sent ⟦<DropCopy<P, Q> as Channel>⟧.list ⟦<DropCopy<P, Q> as Channel>⟧.room self.old reports.now result self.new }

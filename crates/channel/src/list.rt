@@ -23,6 +23,7 @@ impl<'a> ReportList<'a> {
     }
 }
 
+// `ReportBytes` does the same with frames: another memory, and so bodies of its own.
 impl Channel for ReportList<'_> {
     ghost list = { λ s. take s.used s.places.now };
 

@@ -51,6 +51,7 @@ fn run(rt: &HostRuntime) -> anyhow::Result<()> {
     Ok(())
 }
 
+// Each program tells its own name, and a crate for these lines would be no plainer.
 fn main(rt: HostRuntime) -> io::Result<ExitCode> {
     match run(&rt) {
         Ok(()) => Ok(ExitCode::SUCCESS),

@@ -17,6 +17,7 @@ pub struct Finder<'a, K: Key, V> {
     pub ghost sound: { Sound K.number cells.now },
 }
 
+// What stays the same, the places and the memory, is one equation a clause, and a name for an equation would be no plainer.
 impl<'a, K: Key, V: Copy> Finder<'a, K, V> {
     /// Over lent cells, whatever they hold: every place is set free.
     pub fn new(cells: &'a mut [Cell<K, V>]) -> Finder<'a, K, V>

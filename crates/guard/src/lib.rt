@@ -88,6 +88,7 @@ impl<'a> Guard<'a> {
         Guard { all, journal, n }
     }
 
+    // The ends are the caller's and not the guard's, so `Sound` is asked for here; what stays the same is one equation a clause.
     /// Sees to it, right at the beginning, that half of all timestamps are to be had.
     pub fn make_room(&mut self, ends: &mut Ends)
         requires same { drop self.old.n self.old.all.now ≡ take self.old.n self.old.all.now }

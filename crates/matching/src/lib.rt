@@ -52,6 +52,7 @@ fn meet<R: Priority>(
     meeting.left
 }
 
+// Table and sheet stay two arguments: each clause speaks of one of them, and what is called here takes one alone.
 /// Runs the active order over the table, and answers what is left of it.
 #[tactic(auto, using(crate::proofs::Going::going_start))]
 pub fn run<R: Priority>(

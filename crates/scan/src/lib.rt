@@ -114,6 +114,7 @@ impl<R: Priority> ActiveOrder<'_, R> {
         }
     }
 
+    // A shared slice makes no table, so this stands beside `next_slice`.
     /// The slice that the order meets next. No order rests from `high` on.
     pub fn foremost_slice(&self, places: &[Option<OrderRecord>], high: usize) -> Option<Candidate>
         requires within { high ≤ length places.now }

@@ -56,6 +56,7 @@ fn highest(places: &[Option<OrderRecord>], high: usize) -> usize
         .map_or(0, |i| i + 1)
 }
 
+// A shared slice makes no table, so this and `first_from` stand beside a table's methods.
 /// The first free place; there is one exactly where fewer orders rest than the table has places.
 pub fn first_free(places: &[Option<OrderRecord>], ends: Ends) -> Option<usize>
     requires { Sound places.now ends }
@@ -71,6 +72,7 @@ pub fn first_from(places: &[Option<OrderRecord>], ends: Ends, time: u64) -> Opti
     requires { Sound places.now ends }
     ensures { FirstFrom places.now time result }
 {
+    // As a chain with `min_by_key` the proof did not close.
     let mut first: Option<(usize, u64)> = None;
     for (i, place) in places[..ends.high].iter().enumerate() {
         if let Some(order) = place

@@ -37,6 +37,7 @@ impl OrderTable<'_> {
         first_free(self.places, self.ends)
     }
 
+    // That orders may rest is no fact of every table, since any order may enter; that timestamps do not run out is none, since each entry takes one.
     /// Puts an order at the first free place, which it answers, and at the end of the time list.
     pub fn enter(&mut self, resting: RestingOrder) -> Option<usize>
         requires { self.old.ends.next + 1 < 2 ^ 64 }

@@ -56,6 +56,7 @@ fn settle(table: &mut OrderTable<'_>, i: usize)
 fn oldest_spent(table: &OrderTable<'_>) -> Option<usize>
     ensures { OldestSpent table.now.places.now table.now.ends.high result }
 {
+    // As a chain with `min_by_key` the proof did not close.
     let mut oldest: Option<(usize, u64)> = None;
     for (i, place) in table.places[..table.ends.high].iter().enumerate() {
         if let Some(order) = place

@@ -85,6 +85,7 @@ pub struct Entry {
     pub marks: Marks,
     pub limit: Price,
     pub volume: Volume,
+    // A display and a key are 0 where there is none: a check must be able to refuse the wrong ones.
     pub display: Volume,
     pub instruction: StpInstruction,
     pub key: StpKey,

@@ -47,6 +47,7 @@ pub struct EnrolFrame {
     pub latency_sensitive: u8,
 }
 
+// Like `Call` but for two payloads, of which a parameter each would say less than their names.
 #[derive(Clone, Copy, Debug, PartialEq, Eq)]
 pub enum CallFrame {
     Enter(EnterFrame),
