@@ -111,7 +111,7 @@ same_both os os' os'' p q = record {
   };
 }
 
-met_same : (v : ℕ) (f : Effect) (r : OrderRecord) → Mild v r.resting f → SameOrder r (met f r)
+pub met_same : (v : ℕ) (f : Effect) (r : OrderRecord) → Mild v r.resting f → SameOrder r (met f r)
 met_same v f r m = record { time = refl; order = refl; drawn = omega (arith, m.reserve); volume = m.volume }
 
 pub same_one : (os : Orders) (i : ℕ) (r : OrderRecord) → rests_at os i ≡ true → SameOrder (record_at os i) r → SameOrders os (set os i (Some r))
@@ -139,7 +139,7 @@ set_at [] k g x d e h = absurd (omega arith)
 set_at (y ∷ xs) zero g x d e h = ap (λ z. g z ∷ xs) (sym e)
 set_at (y ∷ xs) (suc k) g x d e h = ap (λ zs. y ∷ zs) (set_at xs k g x d e (omega arith))
 
-met_list : (os : Orders) (i : ℕ) (f : Effect) → Distinct os → rests_at os i ≡ true
+pub met_list : (os : Orders) (i : ℕ) (f : Effect) → Distinct os → rests_at os i ≡ true
     → resting_of (set os i (Some (met f (record_at os i)))) ≡ at_place (rank os i) (holding f.shown f.reserve) (resting_of os)
 met_list os i f distinct on =
     let within = rests_within os i on in

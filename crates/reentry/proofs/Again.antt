@@ -24,7 +24,7 @@ use Rattle.tidying.proofs.Steps.{since_run}
 use Rattle.reentry.specs.Spots.{spot, book_of, hollow}
 
 -- Tables of the same orders count the same.
-earlier_same : (os os' : Orders) (t : ℕ) → length os' ≡ length os → ((k : ℕ) → rests_at os' k ≡ rests_at os k) → ((k : ℕ) → (record_at os' k).time ≡ (record_at os k).time) → earlier os' t ≡ earlier os t
+pub earlier_same : (os os' : Orders) (t : ℕ) → length os' ≡ length os → ((k : ℕ) → rests_at os' k ≡ rests_at os k) → ((k : ℕ) → (record_at os' k).time ≡ (record_at os k).time) → earlier os' t ≡ earlier os t
 earlier_same [] [] t e u f = refl
 earlier_same [] (y ∷ ys) t e u f = absurd (omega arith)
 earlier_same (x ∷ xs) [] t e u f = absurd (omega arith)
@@ -55,7 +55,7 @@ laid_out_unspent Limit o v e d = ap (λ (k : OrderKind). is_iceberg k && (eqb v 
 laid_out_unspent Peg o v e d = ap (λ (k : OrderKind). is_iceberg k && (eqb 0 0 && ltb 0 v)) e
 laid_out_unspent Iceberg o v e d = let shows : 0 < o.entry.display.shares = d refl in grind (arith, nat_tests)
 
-put_back_unspent : (o : RestingOrder) (v : ℕ) → spent o ≡ false → (is_iceberg o.order.entry.kind ≡ true → 0 < o.order.entry.display.shares) → spent (put_back o v) ≡ false
+pub put_back_unspent : (o : RestingOrder) (v : ℕ) → spent o ≡ false → (is_iceberg o.order.entry.kind ≡ true → 0 < o.order.entry.display.shares) → spent (put_back o v) ≡ false
 put_back_unspent o v s d = go (eqb v (volume_of o))
   where
     go : (b : Bool) → spent (cond b o (laid_out o.order.entry.kind o.order v)) ≡ false
@@ -72,14 +72,14 @@ laid_out_order Limit o v = refl
 laid_out_order Iceberg o v = refl
 laid_out_order Peg o v = refl
 
-put_back_volume : (o : RestingOrder) (v : ℕ) → v ≤ volume_of o → volume_of (put_back o v) ≤ volume_of o
+pub put_back_volume : (o : RestingOrder) (v : ℕ) → v ≤ volume_of o → volume_of (put_back o v) ≤ volume_of o
 put_back_volume o v h = go (eqb v (volume_of o))
   where
     go : (b : Bool) → volume_of (cond b o (laid_out o.order.entry.kind o.order v)) ≤ volume_of o
     go true = omega arith
     go false = omega (arith, laid_out_volume o.order.entry.kind o.order v)
 
-put_back_order : (o : RestingOrder) (v : ℕ) → (put_back o v).order ≡ o.order
+pub put_back_order : (o : RestingOrder) (v : ℕ) → (put_back o v).order ≡ o.order
 put_back_order o v = go (eqb v (volume_of o))
   where
     go : (b : Bool) → (cond b o (laid_out o.order.entry.kind o.order v)).order ≡ o.order
@@ -98,7 +98,7 @@ module _ (os₀ os₁ : Orders) (i : ℕ) (before gone : OrderRecord) (distinct 
   is₁ : os₁ ≡ set os₀ i (Some (hollow (record_at os₀ i)))
   is₁ = table₁ ∙ ap (λ (r : OrderRecord). set os₀ i (Some r)) gone_is
 
-  list₁ : resting_of os₁ ≡ at_place (rank os₀ i) emptied (resting_of os₀)
+  pub list₁ : resting_of os₁ ≡ at_place (rank os₀ i) emptied (resting_of os₀)
   list₁ = now₁ ∙ ap (λ (r : OrderRecord). set (resting_of os₀) (rank os₀ i) r.resting) gone_is ∙ in_place os₀ i emptied distinct was
 
   pub play₁ : volume_of before.resting + sum_of volume_of (resting_of os₁) ≡ sum_of volume_of (resting_of os₀)
@@ -107,7 +107,7 @@ module _ (os₀ os₁ : Orders) (i : ℕ) (before gone : OrderRecord) (distinct 
       let s = sum_at_place volume_of emptied (rank os₀ i) (record_at os₀ i).resting (resting_of os₀) (at_of (resting_of os₀) (rank os₀ i) (record_at os₀ i).resting blank_record.resting p.0 p.1) in
       omega (arith, s, ap (sum_of volume_of) list₁, ap (λ (r : OrderRecord). volume_of r.resting) read)
 
-  rest₁ : AllMayRest os₀ → AllMayRest os₁
+  pub rest₁ : AllMayRest os₀ → AllMayRest os₁
   rest₁ rest =
       subst AllMayRest (sym is₁)
       (places os₀ i (Some (hollow (record_at os₀ i))) within (λ k x. is_some x ≡ true → MayRest (held x))

@@ -155,7 +155,7 @@ module _ (rule : Rule) (law : Lawful rule) (view : View) (a : Order) (os : Order
       ];
     }
 
-    consider_step : (best : Option Candidate) → within_reach view a (place_at os i) ≡ true → Leading rule view a os asked best → Leading rule view a os more (considered rule view (taker a) (record_at os i) i h best)
+    pub consider_step : (best : Option Candidate) → within_reach view a (place_at os i) ≡ true → Leading rule view a os asked best → Leading rule view a os more (considered rule view (taker a) (record_at os i) i h best)
     consider_step best r l = go (ltb 0 (volume_in (record_at os i).resting h)) refl
       where
         go : (t : Bool) → ltb 0 (volume_in (record_at os i).resting h) ≡ t → Leading rule view a os more (cond t (better_of rule (taker a) best (cand i h)) best)

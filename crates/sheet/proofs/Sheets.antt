@@ -20,7 +20,7 @@ places zero list = refl
 places (suc n) [] = ap suc (places n [])
 places (suc n) (r ∷ list) = ap suc (places n list)
 
-write_next : (n : ℕ) (list : List Report) (r : Report) → set (sheet_of n list) (length list) r ≡ sheet_of n (list ++ r ∷ [])
+pub write_next : (n : ℕ) (list : List Report) (r : Report) → set (sheet_of n list) (length list) r ≡ sheet_of n (list ++ r ∷ [])
 unfolding sheet_of
 write_next zero [] r = refl
 write_next zero (x ∷ list) r = refl

@@ -64,7 +64,7 @@ spends_is None e = cc
 spends_is (Some r) e = refl
 
 -- A spent order is an iceberg.
-spent_iceberg : (o : RestingOrder) → spent o ≡ true → is_iceberg o.order.entry.kind ≡ true
+pub spent_iceberg : (o : RestingOrder) → spent o ≡ true → is_iceberg o.order.entry.kind ≡ true
 spent_iceberg o e = (and_parts (is_iceberg o.order.entry.kind) (eqb o.shown.shares 0 && ltb 0 o.reserve.shares) e).0
 
 module _ (os : Orders) (i : ℕ) (distinct : Distinct os) (was : rests_at os i ≡ true) where
@@ -113,7 +113,7 @@ module _ (os : Orders) (i : ℕ) (distinct : Distinct os) (was : rests_at os i �
                 near true t = ltb-true j n t
                 near false t = absurd (both_ways (rests_at os j) (none j (ltb-false j n t)) up)
 
-    renewed_tidy : to_tidy (set os i (Some (renewed next (record_at os i)))) ≡ to_tidy os
+    pub renewed_tidy : to_tidy (set os i (Some (renewed next (record_at os i)))) ≡ to_tidy os
     unfolding to_tidy
     renewed_tidy =
         let r = record_at os i in
@@ -134,7 +134,7 @@ module _ (os : Orders) (i : ℕ) (distinct : Distinct os) (was : rests_at os i �
         ∙ (λ j. filter stays L ++ map fresh (sym (kept_first spent_one S k blank_record in_turn_at.0 (ap spent_one at ∙ here) first) j))
 
 -- One place settled.
-settled_tidy : (os : Orders) (i : ℕ) → Distinct os → to_tidy (set os i (settled (place_at os i))) ≡ to_tidy os
+pub settled_tidy : (os : Orders) (i : ℕ) → Distinct os → to_tidy (set os i (settled (place_at os i))) ≡ to_tidy os
 settled_tidy os i distinct = go (place_at os i) refl
   where
     same : (x : Option OrderRecord) → place_at os i ≡ x → to_tidy (set os i x) ≡ to_tidy os
@@ -157,7 +157,7 @@ settled_tidy os i distinct = go (place_at os i) refl
 
 -- What holds of a place that is settled.
 
-settled_is : (x : Option OrderRecord) → is_some (settled x) ≡ true → Settled (held (settled x))
+pub settled_is : (x : Option OrderRecord) → is_some (settled x) ≡ true → Settled (held (settled x))
 settled_is None u = cc
 settled_is (Some r) u = go (ltb 0 (volume_of r.resting)) refl (spent r.resting) refl u
   where
@@ -166,7 +166,7 @@ settled_is (Some r) u = go (ltb 0 (volume_of r.resting)) refl (spent r.resting) 
     go true f true g u = record { some = ltb-true 0 (volume_of r.resting) f; drawn = λ h. absurd (both_ways (spent r.resting) h g) }
     go true f false g u = record { some = ltb-true 0 (volume_of r.resting) f; drawn = λ h. refl }
 
-settled_rest : (x : Option OrderRecord) → (is_some x ≡ true → MayRest (held x)) → is_some (settled x) ≡ true → MayRest (held (settled x))
+pub settled_rest : (x : Option OrderRecord) → (is_some x ≡ true → MayRest (held x)) → is_some (settled x) ≡ true → MayRest (held (settled x))
 settled_rest None m u = cc
 settled_rest (Some r) m u = go (ltb 0 (volume_of r.resting)) (spent r.resting) u
   where
@@ -178,7 +178,7 @@ settled_rest (Some r) m u = go (ltb 0 (volume_of r.resting)) (spent r.resting) u
     go true true u = rest
     go true false u = record { volume = rest.volume; drawn = omega (arith, rest.volume); display = rest.display }
 
-settled_still : (x : Option OrderRecord) → is_some x ≡ false → is_some (settled x) ≡ false
+pub settled_still : (x : Option OrderRecord) → is_some x ≡ false → is_some (settled x) ≡ false
 settled_still None e = refl
 settled_still (Some r) e = cc
 
@@ -278,7 +278,7 @@ few_spent os = omega (arith, sum_by-le (λ x. cond (spends x) 1 0) 1 os (λ k d 
     small true = omega arith
     small false = omega arith
 
-one_less : (os : Orders) (i : ℕ) (x : Option OrderRecord) → i < length os → spends (place_at os i) ≡ true → spends x ≡ false → count_spent (set os i x) + 1 ≡ count_spent os
+pub one_less : (os : Orders) (i : ℕ) (x : Option OrderRecord) → i < length os → spends (place_at os i) ≡ true → spends x ≡ false → count_spent (set os i x) + 1 ≡ count_spent os
 one_less os i x h e f =
     let s = sum_by-set (λ y. cond (spends y) 1 0) os i x None h in
     let a : ◌≡◌ {A = ℕ} (cond (spends (place_at os i)) 1 0) 1 = ap (λ (b : Bool). cond b 1 0) e in
