@@ -1,3 +1,4 @@
 pub mod Sorting
+pub mod Inserting
 pub mod Renewing
 pub mod Closing

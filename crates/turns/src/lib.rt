@@ -1,6 +1,7 @@
 //! Orders of the table in their turn: picked in time sequence, moved to the end, cancelled.
 #![tactic(auto)]
 
+mod by_time;
 mod cancelling;
 mod collecting;
 mod moving;
