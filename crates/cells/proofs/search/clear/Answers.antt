@@ -10,6 +10,6 @@ returns g c =
     let free : c.fill.new.self ≡ replicate n None = c.fill.ensures.after (elim [ None ↦ λ h. refl | Some x ↦ λ h. absurd h ]) in
     record {
       sound = subst (Sound g.K.Key.number) (sym free) (free_sound _ _ g.K.Key.number n);
-      none = λ q. subst (λ x. lookup g.K.PartialEq.eq x q ≡ None) (sym free) (free_lookup _ _ g.K.PartialEq.eq n q);
+      none = λ q. subst (λ x. lookup g.K.Key.equal x q ≡ None) (sym free) (free_lookup _ _ g.K.Key.equal n q);
       taken = subst (λ x. taken x ≡ 0) (sym free) (free_taken _ _ n);
     }
