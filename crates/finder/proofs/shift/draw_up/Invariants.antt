@@ -1,5 +1,5 @@
 use Rattle.std.proofs.Common.{length}
-use Rattle.finder.proofs.Distances.{away}
+use Rattle.cells.proofs.Counts.{away}
 use Rattle.finder.proofs.Shifts.{Drawn}
 use Rattle.finder.proofs.shift.draw_up.Given as goal
 
