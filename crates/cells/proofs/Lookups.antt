@@ -8,9 +8,12 @@ use Rattle.cells.specs.Cells.{Cell, lookup, at, Once}
 pub one_key : {K V : Type 0} (q k : K) (v w : V) → ◌≡◌ {A = Cell K V} (Some (q, v)) (Some (k, w)) → q ≡ k
 one_key {K} {V} q k v w h = let p : ◌≡◌ {A = K × V} (q, v) (k, w) = cc in ap (λ x. x.0) p
 
+pub free_not_used : {K V : Type 0} (c : Cell K V) (k : K) (v : V) → c ≡ None → c ≢ Some (k, v)
+free_not_used c k v f u = cc f
+
 -- what is used stands within the cells
 pub used_below : {K V : Type 0} (cs : List (Cell K V)) (i : ℕ) (k : K) (v : V) → at cs i ≡ Some (k, v) → i < length cs
-used_below cs i k v h = elim (cases_lt i (length cs)) [ inl l ↦ l | inr l ↦ (let free = get_or_past cs i None l in absurd (cc)) ]
+used_below cs i k v h = elim (cases_lt i (length cs)) [ inl l ↦ l | inr l ↦ absurd (free_not_used (at cs i) k v (get_or_past cs i None l) h) ]
 
 module _ {K V : Type 0} (e : K → K → Bool) (dec : (x y : K) → Decides (e x y) (x ≡ y)) where
   -- a cell that is not the key's is passed over

@@ -1,18 +1,13 @@
 -- A walk along the places of a key, from its home on.
-use Rattle.std.proofs.Common.{◌≡◌, ℕ, ◌+◌, ◌<◌, ◌≢◌, Bool, List, [], ◌∷◌, length, suc, refl, Some, None, Ok, Err, get_or, false, true, Decides, sym, ap, ◌∙◌, subst, inl, inr, arith}
+use Rattle.std.proofs.Common.{◌≡◌, ℕ, ◌+◌, ◌<◌, ◌≢◌, Bool, List, length, Some, None, Ok, Err, get_or, false, true, Decides, sym, ap, ◌∙◌, subst, inl, inr, arith}
 use Rattle.std.proofs.lemmas.Nat.{mod_below}
 use Rattle.std.proofs.lemmas.List.{get_or_read}
-use Rattle.std.proofs.lemmas.List.Sums.{sum_by-cons}
 use Rattle.std.proofs.lemmas.Bool.{cases_order, cases_lt}
-use Rattle.cells.specs.Cells.{Cell, taken, at, gap, home, Sound}
+use Rattle.cells.specs.Cells.{Cell, at, gap, home, Sound}
 use Rattle.cells.specs.Searching.{Sought}
 use Rattle.cells.proofs.Rings.{gap_below, gap_once}
 use Rattle.cells.proofs.Lookups.{one_key, used_below, lookup_none, lookup_some}
-
-taken_all : {K V : Type 0} (cs : List (Cell K V)) → ((i : ℕ) → i < length cs → at cs i ≢ None) → taken cs ≡ length cs
-taken_all [] f = refl
-taken_all (None ∷ cs) f = absurd (f 0 (omega arith) refl)
-taken_all {K} {V} (Some x ∷ cs) f = omega (arith, sum_by-cons {X = Cell K V}, taken_all cs (λ i l. f (suc i) (omega arith)))
+use Rattle.cells.proofs.Counts.{taken_all}
 
 -- a cell that is used by another key
 abbrev pub Other : {K V : Type 0} → K → Cell K V → Type 0

@@ -1,12 +1,20 @@
--- The numbers that the homes of keys go by.
-use Rattle.std.specs.Prelude.{ℕ, ◌+◌, ◌*◌, slice_index}
+-- When two keys are the same, and the numbers that their homes go by.
+use Rattle.std.specs.Prelude.{ℕ, ◌+◌, ◌*◌, Bool, ◌==◌, slice_index}
+use Rattle.std.specs.Str.{bytes_eq}
 use Rattle.types.specs.declared.orders.OrderNumber.{OrderNumber}
 use Rattle.types.specs.declared.orders.TraderId.{TraderId}
 use Rattle.cells.specs.Cells.{scattered}
 
 -- orders go by their number
+abbrev pub same_order : OrderNumber → OrderNumber → Bool
+same_order x y = x.number == y.number
+
 abbrev pub order_home : OrderNumber → ℕ
 order_home x = scattered x.number
+
+-- traders go by their letters
+abbrev pub same_trader : TraderId → TraderId → Bool
+same_trader x y = bytes_eq x.letters y.letters
 
 -- the number of three letters from the i-th on
 abbrev pub three : TraderId → ℕ → ℕ

@@ -1,19 +1,25 @@
 //! What a finder asks of its keys.
 //!
 //! A key of several parts is spread part by part, as `scatter(scatter(first) as u64 + second)`.
-ghost use Rattle.std.specs.Prelude.{◌≡◌, ℕ, Decides};
+ghost use Rattle.std.specs.Prelude.{◌≡◌, ℕ, Bool, Decides, nat_eq};
 ghost use Rattle.cells.specs.Cells.{scattered};
 ghost use Rattle.std.proofs.Common.{rules};
 
-pub trait Key: Copy + Eq {
+pub trait Key: Copy {
+    /// Whether two keys are the same.
+    ghost equal: { Self → Self → Bool };
+
     /// The number that a key's home goes by: its remainder by the number of cells.
     ghost number: { Self → ℕ };
+
+    fn same(&self, other: &Self) -> bool
+        ensures { result ≡ equal self.now other.now };
 
     fn spread(&self) -> usize
         ensures { result ≡ number self.now };
 
     /// Equal keys are one key.
-    ghost decides: { (x y : Self) → Decides (Self.eq x y) (x ≡ y) };
+    ghost decides: { (x y : Self) → Decides (equal x y) (x ≡ y) };
 }
 
 /// Spreads a key's number, so that numbers in a row, or far apart by a round step, have homes apart.
@@ -24,9 +30,15 @@ pub fn scatter(number: u64) -> usize
 }
 
 impl Key for u32 {
+    ghost equal = { nat_eq };
+
     ghost number = { scattered };
 
     ghost decides = { Prim.search rules };
+
+    fn same(&self, other: &u32) -> bool {
+        self == other
+    }
 
     fn spread(&self) -> usize {
         scatter(u64::from(*self))

@@ -1,7 +1,6 @@
 //! The keys of a book's registers: order numbers, and traders by their six letters.
-ghost use Rattle.cells.specs.Keys.{order_home, trader_home};
+ghost use Rattle.cells.specs.Keys.{same_order, order_home, same_trader, trader_home};
 ghost use Rattle.std.proofs.Common.{rules};
-ghost use Rattle.std.specs.Str.{bytes_eq};
 ghost use Rattle.std.proofs.lemmas.Slice.Eq.{bytes_eq-Decides};
 ghost use Rattle.cells.specs.Letters.{by_letters};
 
@@ -9,9 +8,15 @@ use crate::key::{Key, scatter};
 use types::{OrderNumber, TraderId};
 
 impl Key for OrderNumber {
+    ghost equal = { same_order };
+
     ghost number = { order_home };
 
     ghost decides = { Prim.search rules };
+
+    fn same(&self, other: &OrderNumber) -> bool {
+        self.number == other.number
+    }
 
     fn spread(&self) -> usize {
         scatter(u64::from(self.number))
@@ -19,9 +24,15 @@ impl Key for OrderNumber {
 }
 
 impl Key for TraderId {
+    ghost equal = { same_trader };
+
     ghost number = { trader_home };
 
-    ghost decides = { λ x y. by_letters (bytes_eq x.letters y.letters) x y (bytes_eq-Decides x.letters y.letters) };
+    ghost decides = { λ x y. by_letters (same_trader x y) x y (bytes_eq-Decides x.letters y.letters) };
+
+    fn same(&self, other: &TraderId) -> bool {
+        self.letters == other.letters
+    }
 
     fn spread(&self) -> usize {
         let [a, b, c, d, e, f] = self.letters;

@@ -17,7 +17,7 @@ pub fn next_place(p: usize, n: usize) -> usize
 /// The place where the key stands; or else the free place where a search for it ends, if any is free.
 pub fn locate<K: Key, V: Copy>(cells: &[Cell<K, V>], key: &K) -> Result<usize, Option<usize>>
     requires { Sound K.number cells.now }
-    ensures { Sought K.eq K.number cells.now key.now result }
+    ensures { Sought K.equal K.number cells.now key.now result }
 {
     let n = cells.len();
     if n == 0 {
@@ -28,7 +28,7 @@ pub fn locate<K: Key, V: Copy>(cells: &[Cell<K, V>], key: &K) -> Result<usize, O
     for p in (home..n).chain(0..home) {
         match &cells[p] {
             None => return Err(Some(p)),
-            Some((q, _)) if q == key => return Ok(p),
+            Some((q, _)) if q.same(key) => return Ok(p),
             Some(_) => {}
         }
     }
@@ -47,7 +47,7 @@ pub fn value_at<K: Copy, V: Copy>(cells: &[Cell<K, V>], p: usize) -> Option<V>
 /// What the key finds.
 pub fn find<K: Key, V: Copy>(cells: &[Cell<K, V>], key: &K) -> Option<V>
     requires { Sound K.number cells.now }
-    ensures { result ≡ lookup K.eq cells.now key.now }
+    ensures { result ≡ lookup K.equal cells.now key.now }
 {
     value_at(cells, locate(cells, key).ok()?)
 }
@@ -56,7 +56,7 @@ pub fn find<K: Key, V: Copy>(cells: &[Cell<K, V>], key: &K) -> Option<V>
 /// Sets every place free, whatever the cells hold.
 pub fn clear<K: Key, V: Copy>(cells: &mut [Cell<K, V>])
     ensures sound { Sound K.number cells.new }
-    ensures none { (q : K) → lookup K.eq cells.new q ≡ None }
+    ensures none { (q : K) → lookup K.equal cells.new q ≡ None }
     ensures taken { taken cells.new ≡ 0 }
 {
     cells.fill(None);

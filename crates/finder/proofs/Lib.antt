@@ -1,4 +1,3 @@
-mod Distances
 mod Rows
 mod Shifts
 mod Writes

@@ -4,7 +4,7 @@ use Rattle.std.proofs.lemmas.List.{get_or_read}
 use Rattle.std.proofs.lemmas.Bool.{cases_eq, cases_lt}
 use Rattle.cells.specs.Cells.{Cell, at, gap, after, home}
 use Rattle.finder.specs.Changes.{LeadsOver, Follower}
-use Rattle.cells.proofs.Rings.{gap_below, gap_once, next_below, gap_nearer, gap_behind, gap_round}
+use Rattle.cells.proofs.Rings.{gap_below, gap_once, next_below, gap_nearer, gap_whole, gap_sooner}
 use Rattle.cells.proofs.Lookups.{one_key, used_below}
 
 -- a cell in the row whose key stays
@@ -38,7 +38,7 @@ module _ {K V : Type 0} (number : K → ℕ) (hole : ℕ) (cs : List (Cell K V))
       pub follows : LeadsOver number (length cs) hole p q → Follower number hole cs (Some p)
       follows over = (
         within,
-        λ x l ne g. (stayed x l (omega (arith, gap_nearer (length cs) hole x p low l within ne g))).0,
+        λ x l ne g. (stayed x l (omega (arith, gap_sooner (length cs) hole x p low l within ne g))).0,
         q,
         v,
         there ∙ used,
@@ -56,8 +56,8 @@ module _ {K V : Type 0} (number : K → ℕ) (hole : ℕ) (cs : List (Cell K V))
             | inl x ↦ cc there
             | inr x ↦ (
                 let farther : gap (length cs) (after (length cs) hole) p ≢ gap (length cs) (after (length cs) hole) a = λ z. x (sym (gap_once (length cs) (after (length cs) hole) p a next within l z)) in
-                let apart : p ≢ hole = λ z. omega (arith, gap_round (length cs) hole low, ap (gap (length cs) (after (length cs) hole)) z, gap_below (length cs) (after (length cs) hole) a next l) in
-                row p within apart (omega (arith, gap_behind (length cs) hole p low within apart, gap_behind (length cs) hole a low l ne)) (there ∙ free))
+                let apart : p ≢ hole = λ z. omega (arith, gap_whole (length cs) hole low, ap (gap (length cs) (after (length cs) hole)) z, gap_below (length cs) (after (length cs) hole) a next l) in
+                row p within apart (omega (arith, gap_nearer (length cs) hole p low within (λ z. apart (sym z)), gap_nearer (length cs) hole a low l (λ z. ne (sym z)))) (there ∙ free))
           ]
         ]
 

@@ -10,7 +10,7 @@ use Rattle.cells.specs.Cells.{Cell, lookup, taken, at, gap, home, Rules, Sound, 
 use Rattle.finder.specs.Changes.{InRow, Follower}
 use Rattle.cells.proofs.Rings.{gap_over}
 use Rattle.cells.proofs.Lookups.{one_key, used_below, lookup_some, lookup_set}
-use Rattle.finder.proofs.Distances.{away, off, weigh_set}
+use Rattle.cells.proofs.Counts.{away, off, weigh_set}
 
 module _ {K V : Type 0} (e : K → K → Bool) (dec : (x y : K) → Decides (e x y) (x ≡ y)) (number : K → ℕ) (start : List (Cell K V)) where
   -- the cells at each step

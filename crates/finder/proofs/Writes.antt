@@ -8,7 +8,68 @@ use Rattle.std.proofs.lemmas.Bool.{cases_eq, cond_both}
 use Rattle.cells.specs.Cells.{Cell, lookup, taken, at, gap, home, Rules, Sound, SoundBut}
 use Rattle.cells.specs.Searching.{held, Sought}
 use Rattle.finder.specs.Changes.{found, Inserted, Removed}
-use Rattle.cells.proofs.Lookups.{one_key, lookup_none, lookup_some, lookup_set}
+use Rattle.cells.proofs.Lookups.{free_not_used, one_key, lookup_none, lookup_some, lookup_set}
+
+-- One place of f is another cell in f'.
+module _ {K V : Type 0} (number : K → ℕ) (n : ℕ) (f f' : ℕ → Cell K V) (i : ℕ) (rest : (j : ℕ) → j ≢ i → f' j ≡ f j) where
+  -- a key that stands nowhere else is written where its way leads; a place that was named may be used so
+  pub rules_put : (P Q : ℕ → Type 0) → Rules number n P f → ((j : ℕ) → j ≢ i → (Q j → ⊥) → P j → ⊥) → (k : K) (v : V) → f' i ≡ Some (k, v)
+      → ((j : ℕ) (w : V) → j ≢ i → f j ≢ Some (k, w))
+      → ((j : ℕ) → j < n → gap n (home number n k) j < gap n (home number n k) i → j ≢ i → (Q j → ⊥) → f j ≢ None) → Rules number n Q f'
+  rules_put P Q rules fewer k v here alone way = record { once = once; reached = reached }
+    where
+      mine : (x : ℕ) (q : K) (w : V) → f' x ≡ Some (q, w) → x ≡ i → q ≡ k
+      mine x q w h e = one_key q k w v (sym h ∙ ap f' e ∙ here)
+
+      once : (a b : ℕ) (q : K) (u w : V) → f' a ≡ Some (q, u) → f' b ≡ Some (q, w) → a ≡ b
+      once a b q u w g h =
+          elim (cases_eq a i) [
+            | inl p ↦ elim (cases_eq b i) [
+              | inl r ↦ p ∙ sym r
+              | inr r ↦ absurd (alone b w r (sym (rest b r) ∙ h ∙ ap (λ x. Some (x, w)) (mine a q u g p)))
+            ]
+            | inr p ↦ elim (cases_eq b i) [
+              | inl r ↦ absurd (alone a u p (sym (rest a p) ∙ g ∙ ap (λ x. Some (x, u)) (mine b q w h r)))
+              | inr r ↦ rules.once a b q u w (sym (rest a p) ∙ g) (sym (rest b r) ∙ h)
+            ]
+          ]
+
+      reached : (a j : ℕ) (q : K) (u : V) → f' a ≡ Some (q, u) → j < n → gap n (home number n q) j < gap n (home number n q) a → (Q j → ⊥) → f' j ≢ None
+      reached a j q u g l s t h =
+          let p : j ≢ i = λ x. free_not_used (f' j) k v h (ap f' x ∙ here) in
+          elim (cases_eq a i) [
+            | inl r ↦ way j l (rw (sym (mine a q u g r), ← r) s) p t (sym (rest j p) ∙ h)
+            | inr r ↦ rules.reached a j q u (sym (rest a r) ∙ g) l s (fewer j p t) (sym (rest j p) ∙ h)
+          ]
+
+  -- a place is set free and named, as one that a way may lead over
+  pub rules_hole : (P Q : ℕ → Type 0) → Rules number n P f → ((j : ℕ) → (Q j → ⊥) → P j → ⊥) → f' i ≡ None → Q i → Rules number n Q f'
+  rules_hole P Q rules fewer here named = record { once = once; reached = reached }
+    where
+      apart : (x : ℕ) (q : K) (w : V) → f' x ≡ Some (q, w) → x ≢ i
+      apart x q w h e = free_not_used (f' x) q w (ap f' e ∙ here) h
+
+      once : (a b : ℕ) (q : K) (u w : V) → f' a ≡ Some (q, u) → f' b ≡ Some (q, w) → a ≡ b
+      once a b q u w g h = rules.once a b q u w (sym (rest a (apart a q u g)) ∙ g) (sym (rest b (apart b q w h)) ∙ h)
+
+      reached : (a j : ℕ) (q : K) (u : V) → f' a ≡ Some (q, u) → j < n → gap n (home number n q) j < gap n (home number n q) a → (Q j → ⊥) → f' j ≢ None
+      reached a j q u g l s t h =
+          let p : j ≢ i = λ x. t (subst Q (sym x) named) in
+          rules.reached a j q u (sym (rest a (apart a q u g)) ∙ g) l s (fewer j t) (sym (rest j p) ∙ h)
+
+module _ {K V : Type 0} (number : K → ℕ) (cs : List (Cell K V)) (i : ℕ) (within : i < length cs) (sound : Sound number cs) where
+  pub sound_put : (k : K) (v : V) → ((j : ℕ) (w : V) → j ≢ i → at cs j ≢ Some (k, w))
+      → ((j : ℕ) → j < length cs → gap (length cs) (home number (length cs) k) j < gap (length cs) (home number (length cs) k) i → at cs j ≢ None) → Sound number (set cs i (Some (k, v)))
+  sound_put k v alone way =
+      subst (λ m. Rules number m (λ _. ⊥) (at (set cs i (Some (k, v))))) (sym (length-set cs i (Some (k, v))))
+      (rules_put number (length cs) (at cs) (at (set cs i (Some (k, v)))) i (λ j h. get_or-set_other cs i j (Some (k, v)) None h)
+      (λ _. ⊥) (λ _. ⊥) sound (λ j p q r. r) k v (get_or-set_same cs i (Some (k, v)) None within) alone (λ j l s p q. way j l s))
+
+  pub sound_hole : SoundBut number i (set cs i None)
+  sound_hole =
+      subst (λ m. Rules number m (λ j. j ≡ i) (at (set cs i None))) (sym (length-set cs i None))
+      (rules_hole number (length cs) (at cs) (at (set cs i None)) i (λ j h. get_or-set_other cs i j None None h)
+      (λ _. ⊥) (λ j. j ≡ i) sound (λ j t x. x) (get_or-set_same cs i None None within) refl)
 
 found_held : {K V : Type 0} (c : Cell K V) → found (held c) ≡ cond (is_some c) 1 0
 found_held None = refl
@@ -64,26 +125,8 @@ module _ {K V : Type 0} (e : K → K → Bool) (dec : (x y : K) → Decides (e x
       counted = omega (arith, sum_by-set (λ x. cond (is_some x) 1 0) cs p c None place.within, found_held (at cs p))
 
     module _ (v : V) where
-      mine : (q : K) (u : V) → ◌≡◌ {A = Cell K V} (Some (k, v)) (Some (q, u)) → (a : ℕ) (w : V) → at cs a ≡ Some (q, w) → a ≡ p
-      mine q u is a w h = let same = one_key k q v u is in place.alone a w (cc)
-
       pub put_sound : Sound number (set cs p (Some (k, v)))
-      put_sound = subst (λ m. Rules number m (λ _. ⊥) (at (set cs p (Some (k, v))))) (sym (length-set cs p (Some (k, v)))) (record {
-        once = λ a b q u w g h.
-            elim (stood (Some (k, v)) a q u g) [
-              | inl x ↦ elim (stood (Some (k, v)) b q w h) [ inl y ↦ x.0 ∙ sym y.0 | inr y ↦ absurd (y.0 (mine q u x.1 b w y.1)) ]
-              | inr x ↦ elim (stood (Some (k, v)) b q w h) [ inl y ↦ absurd (x.0 (mine q w y.1 a u x.1)) | inr y ↦ sound.once a b q u w x.1 y.1 ]
-            ];
-        reached = λ a j q u g l t ne f.
-            let apart : j ≢ p = λ x. let o = there (Some (k, v)) in cc in
-            let was : at cs j ≡ None = sym (rest (Some (k, v)) j apart) ∙ f in
-            elim (stood (Some (k, v)) a q u g) [
-              | inl x ↦ (
-                  let same = one_key k q v u x.1 in
-                  place.way j l (rw (same, ← x.0) t) was)
-              | inr x ↦ sound.reached a j q u x.1 l t (λ z. z) was
-            ];
-      })
+      put_sound = sound_put number cs p place.within sound k v (λ j w ne h. ne (place.alone j w h)) place.way
 
       put_finds : (q : K) → lookup e (set cs p (Some (k, v))) q ≡ update e (lookup e cs) k (Some v) q
       put_finds q =
@@ -105,10 +148,7 @@ module _ {K V : Type 0} (e : K → K → Bool) (dec : (x y : K) → Decides (e x
 
     -- the key's place is set free
     pub hole_sound : SoundBut number p (set cs p None)
-    hole_sound = subst (λ m. Rules number m (λ j. j ≡ p) (at (set cs p None))) (sym (length-set cs p None)) (record {
-      once = λ a b q u w g h. sound.once a b q u w (stood_still a q u g).1 (stood_still b q w h).1;
-      reached = λ a j q u g l t ne f. sound.reached a j q u (stood_still a q u g).1 l t (λ z. z) (sym (rest None j ne) ∙ f);
-    })
+    hole_sound = sound_hole number cs p place.within sound
 
     hole_finds : (q : K) → lookup e (set cs p None) q ≡ update e (lookup e cs) k None q
     hole_finds q =

@@ -10,18 +10,18 @@ use cells::{Cell, Key, clear, find, locate, value_at};
 #[derive(Clone, Copy, Debug, PartialEq, Eq)]
 pub struct Full;
 
-/// Lent cells in which a search finds every key.
+/// A map over lent cells.
 #[derive(Drop)]
-pub struct Finder<'a, K: Key, V> {
+pub struct Finder<'a, K, V> {
     pub cells: &'a mut [Cell<K, V>],
-    pub ghost sound: { Sound K.number cells.now },
 }
 
 // What stays the same, the places and the memory, is one equation a clause, and a name for an equation would be no plainer.
 impl<'a, K: Key, V: Copy> Finder<'a, K, V> {
     /// Over lent cells, whatever they hold: every place is set free.
     pub fn new(cells: &'a mut [Cell<K, V>]) -> Finder<'a, K, V>
-        ensures none { (q : K) → lookup K.eq result.cells.now q ≡ None }
+        ensures sound { Sound K.number result.cells.now }
+        ensures none { (q : K) → lookup K.equal result.cells.now q ≡ None }
         ensures taken { taken result.cells.now ≡ 0 }
         ensures places { length result.cells.now ≡ length cells.old }
         ensures lent { result.cells.ghost_name ≡ cells.entry.ghost_name }
@@ -30,9 +30,10 @@ impl<'a, K: Key, V: Copy> Finder<'a, K, V> {
         Finder { cells }
     }
 
-    /// Sets every place free.
+    /// Sets every place free, whatever the cells hold.
     pub fn clear(&mut self)
-        ensures none { (q : K) → lookup K.eq self.new.cells.now q ≡ None }
+        ensures sound { Sound K.number self.new.cells.now }
+        ensures none { (q : K) → lookup K.equal self.new.cells.now q ≡ None }
         ensures taken { taken self.new.cells.now ≡ 0 }
         ensures places { length self.new.cells.now ≡ length self.old.cells.now }
         ensures lent { self.new.cells.ghost_name ≡ self.old.cells.ghost_name }
@@ -42,14 +43,17 @@ impl<'a, K: Key, V: Copy> Finder<'a, K, V> {
 
     /// What the key finds.
     pub fn find(&self, key: &K) -> Option<V>
-        ensures { result ≡ lookup K.eq self.now.cells.now key.now }
+        requires { Sound K.number self.now.cells.now }
+        ensures { result ≡ lookup K.equal self.now.cells.now key.now }
     {
         find(self.cells, key)
     }
 
     /// Has the key find the value, and answers what it found before; refused exactly where the key is new and no place is free.
     pub fn insert(&mut self, key: K, value: V) -> Result<Option<V>, Full>
-        ensures inserted { Inserted K.eq self.old.cells.now key value result self.new.cells.now }
+        requires { Sound K.number self.old.cells.now }
+        ensures sound { Sound K.number self.new.cells.now }
+        ensures inserted { Inserted K.equal self.old.cells.now key value result self.new.cells.now }
         ensures places { length self.new.cells.now ≡ length self.old.cells.now }
         ensures lent { self.new.cells.ghost_name ≡ self.old.cells.ghost_name }
     {
@@ -65,7 +69,9 @@ impl<'a, K: Key, V: Copy> Finder<'a, K, V> {
 
     /// Has the key find nothing, and answers what it found before.
     pub fn remove(&mut self, key: &K) -> Option<V>
-        ensures removed { Removed K.eq self.old.cells.now key.now result self.new.cells.now }
+        requires { Sound K.number self.old.cells.now }
+        ensures sound { Sound K.number self.new.cells.now }
+        ensures removed { Removed K.equal self.old.cells.now key.now result self.new.cells.now }
         ensures places { length self.new.cells.now ≡ length self.old.cells.now }
         ensures lent { self.new.cells.ghost_name ≡ self.old.cells.ghost_name }
     {

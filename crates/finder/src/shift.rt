@@ -46,7 +46,7 @@ pub(crate) fn draw_up<K: Key, V: Copy>(cells: &mut [Cell<K, V>], place: usize)
     requires free { at cells.old place ≡ None }
     requires sound { SoundBut K.number place cells.old }
     ensures sound { Sound K.number cells.new }
-    ensures finds { (q : K) → lookup K.eq cells.new q ≡ lookup K.eq cells.old q }
+    ensures finds { (q : K) → lookup K.equal cells.new q ≡ lookup K.equal cells.old q }
     ensures taken { taken cells.new ≡ taken cells.old }
     ensures places { length cells.new ≡ length cells.old }
 {

@@ -1,15 +1,17 @@
-use Rattle.std.proofs.Common.{◌≡◌, length, None, Some, refl, sym, subst}
+use Rattle.std.proofs.Common.{◌≡◌, ℕ, ◌<◌, length, None, Some, refl, sym, subst}
 use Rattle.std.specs.Prelude.{replicate}
-use Rattle.cells.specs.Cells.{lookup, taken, Sound}
-use Rattle.cells.proofs.Free.{free_sound, free_lookup, free_taken}
+use Rattle.cells.specs.Cells.{at}
+use Rattle.cells.proofs.Counts.{taken_none}
+use Rattle.cells.proofs.Free.{free_at, free_sound, free_none}
 use Rattle.cells.proofs.search.clear.Goals as goal
 
 pub returns : goal.returns
 returns g c =
     let n = length c.args.cells.now in
-    let free : c.fill.new.self ≡ replicate n None = c.fill.ensures.after (elim [ None ↦ λ h. refl | Some x ↦ λ h. absurd h ]) in
+    let all : c.fill.new.self ≡ replicate n None = c.fill.ensures.after (elim [ None ↦ λ h. refl | Some x ↦ λ h. absurd h ]) in
+    let free : (j : ℕ) → j < length c.fill.new.self → at c.fill.new.self j ≡ None = λ j l. subst (λ cs. at cs j ≡ None) (sym all) (free_at _ _ n j) in
     record {
-      sound = subst (Sound g.K.Key.number) (sym free) (free_sound _ _ g.K.Key.number n);
-      none = λ q. subst (λ x. lookup g.K.PartialEq.eq x q ≡ None) (sym free) (free_lookup _ _ g.K.PartialEq.eq n q);
-      taken = subst (λ x. taken x ≡ 0) (sym free) (free_taken _ _ n);
+      sound = free_sound g.K.Key.equal g.met.K.Key.decides g.K.Key.number c.fill.new.self free;
+      none = free_none g.K.Key.equal g.met.K.Key.decides g.K.Key.number c.fill.new.self free;
+      taken = taken_none c.fill.new.self free;
     }

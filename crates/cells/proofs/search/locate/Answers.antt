@@ -19,20 +19,20 @@ bounds-cells-p g c = (turn g c).0
 pub returns-in-None-cells : goal.returns-in-None-cells
 returns-in-None-cells g c =
     let (low, far) = turn g (goal.at.returns-in-None-cells g c).In-Some in
-    sought_open g.K.PartialEq.eq g.met.K.Key.decides g.K.Key.number c.args.cells.now c.args.key.now _ c.in-Some.p c.loop-p.invariant low far _ c.index-cells-p.is c.requires c.in-None-cells.is
+    sought_open g.K.Key.equal g.met.K.Key.decides g.K.Key.number c.args.cells.now c.args.key.now _ c.in-Some.p c.loop-p.invariant low far _ c.index-cells-p.is c.requires c.in-None-cells.is
 
 pub returns-in-Some-cells : goal.returns-in-Some-cells
 returns-in-Some-cells g c =
     let (low, far) = turn g (goal.at.returns-in-Some-cells g c).In-Some in
-    sought_here g.K.PartialEq.eq g.met.K.Key.decides g.K.Key.number c.args.cells.now c.args.key.now _ c.in-Some.p c.loop-p.invariant low far _ c.index-cells-p.is c.requires _ _ c.in-Some-cells.is (cc)
+    sought_here g.K.Key.equal g.met.K.Key.decides g.K.Key.number c.args.cells.now c.args.key.now _ c.in-Some.p c.loop-p.invariant low far _ c.index-cells-p.is c.requires _ _ c.in-Some-cells.is (cc)
 
 pub loop-p-preserved : goal.loop-p-preserved
 loop-p-preserved g c =
     let (low, far) = turn g (goal.at.loop-p-preserved g c).In-Some in
-    simp length-append (passed_on g.K.PartialEq.eq g.met.K.Key.decides g.K.Key.number c.args.cells.now c.args.key.now _ c.in-Some.p c.loop-p.invariant low far _ c.index-cells-p.is _ _ c.in-Some-cells.is (cc))
+    simp length-append (passed_on g.K.Key.equal g.met.K.Key.decides g.K.Key.number c.args.cells.now c.args.key.now _ c.in-Some.p c.loop-p.invariant low far _ c.index-cells-p.is _ _ c.in-Some-cells.is (cc))
 
 pub returns : goal.returns
 returns g c =
     let all = ring_end (length c.args.cells.now) (home g.K.Key.number (length c.args.cells.now) c.args.key.now) (omega arith) c.into_iter-p-iterator.result (cc) (cc) (cc) (cc)
     c.loop-p.yielded _ c.loop-p.yielded_by _ _ c.next.ensures.steps c.in-None.is in
-    sought_full g.K.PartialEq.eq g.met.K.Key.decides g.K.Key.number c.args.cells.now c.args.key.now (subst (Passed g.K.Key.number c.args.cells.now c.args.key.now) all c.loop-p.invariant)
+    sought_full g.K.Key.equal g.met.K.Key.decides g.K.Key.number c.args.cells.now c.args.key.now (subst (Passed g.K.Key.number c.args.cells.now c.args.key.now) all c.loop-p.invariant)
