@@ -2,4 +2,3 @@ pub mod Counts
 pub mod Parts
 pub mod Renumbered
 pub mod Props
-pub mod Same

@@ -1,9 +1,11 @@
 -- The table lent out of the slice and come back.
-use Rattle.std.proofs.Common.{◌≡◌, ℕ, ◌+◌, ◌-◌, ◌++◌, length, map, take, drop, sym, ap, ◌∙◌, subst, arith, length-append, length-drop, length-take-le, take_at, drop_at}
+use Rattle.std.proofs.Common.{◌≡◌, ℕ, ◌+◌, ◌-◌, ◌<◌, ◌++◌, length, map, take, drop, set, Option, sym, ap, ◌∙◌, subst, arith, length-append, length-drop, length-set, length-take-le, take_at, drop-set-lt, drop_at}
+use Rattle.std.proofs.Math.Seq.{take-set-lt}
 use Rattle.std.specs.Option.{option_map}
+use Rattle.table.specs.declared.records.OrderRecord.{OrderRecord}
 use Rattle.table.specs.declared.journals.Journal.{Journal}
 use Rattle.table.specs.Sequence.{Orders}
-use Rattle.table.specs.Noting.{Agree, Moved}
+use Rattle.table.specs.Noting.{Agree, Follows, Moved}
 use Rattle.guard.specs.Keeping.{Kept}
 use Rattle.guard.specs.Renumbering.{ranked, renumbered}
 
@@ -30,6 +32,19 @@ kept_part n all new j j' k =
     let same : n ≡ n - 0 = omega arith in
     subst (λ v. length new ≡ length (take v all) → Moved (take v all) j new j' → Kept n (new ++ drop v all) j') same
     (kept_front n all new j j' k)
+
+-- One place of the table written to and noted.
+pub kept_put : (n : ℕ) (all : Orders) (j j' : Journal) (i : ℕ) (o : Option OrderRecord) → i < n
+    → Follows i j j' → Kept n all j → Kept n (set all i o) j'
+kept_put n all j j' i o h f k =
+    let both = k.halves in
+    record {
+      halves = both ∙ sym (length-set all i o);
+      small = k.small;
+      agree = subst (λ t. Agree n j' t (drop n (set all i o))) (sym (take-set-lt n all i o h))
+          (subst (λ s. Agree n j' (set (take n all) i o) s) (sym (drop-set-lt n all i o h))
+          (f n (take n all) (drop n all) o h (length-take-le n all (omega arith)) k.agree));
+    }
 
 -- What stands in the two halves then.
 module _ (n : ℕ) (all new : Orders) (both : n + n ≡ length all) (same : length new ≡ length (take (n - 0) all)) where

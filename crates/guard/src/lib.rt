@@ -56,11 +56,11 @@ pub struct Guard<'a> {
     pub journal: &'a mut Journal,
     // Callers' clauses name the length of a half: table and spare are one piece of lent memory.
     pub n: usize,
-    pub ghost kept: { Kept n all.now journal.now },
 }
 
 impl Drop for Guard<'_> {
     fn drop(self)
+        requires { Kept self.n self.all.now self.journal.now }
         ensures table { take self.entry.n self.exit.0.now ≡ drop self.entry.n self.entry.all.now }
         ensures spare { drop self.entry.n self.exit.0.now ≡ drop self.entry.n self.entry.all.now }
         ensures kept { Kept self.entry.n self.exit.0.now self.exit.1.0.now }
@@ -81,6 +81,7 @@ impl<'a> Guard<'a> {
         ensures size { result.n ≡ n }
         ensures front { take n result.all.now ≡ take n all.old }
         ensures back { drop n result.all.now ≡ take n all.old }
+        ensures kept { Kept n result.all.now result.journal.now }
         ensures named { result.all.ghost_name ≡ all.entry.ghost_name }
         ensures tied { result.journal.ghost_name ≡ journal.entry.ghost_name }
     {
@@ -91,6 +92,7 @@ impl<'a> Guard<'a> {
     // The ends are the caller's and not the guard's, so `Sound` is asked for here; what stays the same is one equation a clause.
     /// Sees to it, right at the beginning, that half of all timestamps are to be had.
     pub fn make_room(&mut self, ends: &mut Ends)
+        requires kept { Kept self.old.n self.old.all.now self.old.journal.now }
         requires same { drop self.old.n self.old.all.now ≡ take self.old.n self.old.all.now }
         requires sound { Sound (take self.old.n self.old.all.now) ends.old }
         ensures size { self.new.n ≡ self.old.n }
@@ -99,6 +101,7 @@ impl<'a> Guard<'a> {
         ensures list { resting_of (take self.old.n self.new.all.now) ≡ resting_of (take self.old.n self.old.all.now) }
         ensures times { ends.new.next < 9223372036854775808 }
         ensures sound { Sound (take self.old.n self.new.all.now) ends.new }
+        ensures kept { Kept self.old.n self.new.all.now self.new.journal.now }
         ensures named { self.new.all.ghost_name ≡ self.old.all.ghost_name }
         ensures tied { self.new.journal.ghost_name ≡ self.old.journal.ghost_name }
     {

@@ -21,11 +21,41 @@ module _ (os : Orders) (i : ℕ) (o : Option OrderRecord) (within : i < length o
       (λ ne. subst (P k) (sym (get_or-set_other os i k o None ne)) (old k ne))
       (cases_eq k i)
 
+-- Set free: the rest is as it was.
+pub sequenced_gone : (os : Orders) (i : ℕ) → i < length os → (next : ℕ) → Sequenced next os → Sequenced next (set os i None)
+sequenced_gone os i within next s =
+    record {
+      distinct = λ j k lj lk uj uk e. s.distinct j k (long j lj) (long k lk) (was j uj) (was k uk) (sym (time j uj) ∙ e ∙ time k uk);
+      older = λ k lk uk. omega (arith, s.older k (long k lk) (was k uk), time k uk);
+    }
+  where
+    long : (k : ℕ) → k < length (set os i None) → k < length os
+    long k h = omega (arith, length-set os i None, h)
+
+    was : (k : ℕ) → rests_at (set os i None) k ≡ true → rests_at os k ≡ true
+    was = places os i None within (λ k x. is_some x ≡ true → rests_at os k ≡ true) (λ u. absurd cc) (λ k _ h. h)
+
+    time : (k : ℕ) → rests_at (set os i None) k ≡ true → (record_at (set os i None) k).time ≡ (record_at os k).time
+    time = places os i None within (λ k x. is_some x ≡ true → (held x).time ≡ (record_at os k).time) (λ u. absurd cc) (λ k _ _. refl)
+
 module _ (os : Orders) (i : ℕ) (o : OrderRecord) (within : i < length os) where
+  long : (k : ℕ) → k < length (set os i (Some o)) → k < length os
+  long k h = omega (arith, length-set os i (Some o), h)
+
   -- Changed in place: the timestamps and the ranks stay.
   module _ (on : rests_at os i ≡ true) (same : o.time ≡ (record_at os i).time) where
     pub time_before : (k : ℕ) → (record_at (set os i (Some o)) k).time ≡ (record_at os k).time
     time_before = places os i (Some o) within (λ k x. (held x).time ≡ (record_at os k).time) same (λ k _. refl)
+
+    pub sequenced_same : (next : ℕ) → Sequenced next os → Sequenced next (set os i (Some o))
+    sequenced_same next s =
+        record {
+          distinct = λ j k lj lk uj uk e. s.distinct j k (long j lj) (long k lk) (was j uj) (was k uk) (sym (time_before j) ∙ e ∙ time_before k);
+          older = λ k lk uk. omega (arith, s.older k (long k lk) (was k uk), time_before k);
+        }
+      where
+        was : (k : ℕ) → rests_at (set os i (Some o)) k ≡ true → rests_at os k ≡ true
+        was = places os i (Some o) within (λ k x. is_some x ≡ true → rests_at os k ≡ true) (λ _. on) (λ k _ h. h)
 
     pub rank_same : (k : ℕ) → rank (set os i (Some o)) k ≡ rank os k
     rank_same k = earlier_same os i o (record_at (set os i (Some o)) k).time on same ∙ ap (earlier os) (time_before k)
@@ -38,9 +68,6 @@ module _ (os : Orders) (i : ℕ) (o : OrderRecord) (within : i < length os) wher
 
     same_as : (k : ℕ) → (k ≡ i → ⊥) → place_at (set os i (Some o)) k ≡ place_at os k
     same_as k ne = get_or-set_other os i k (Some o) None ne
-
-    long : (k : ℕ) → k < length (set os i (Some o)) → k < length os
-    long k h = omega (arith, length-set os i (Some o), h)
 
     pub sequenced_new : Sequenced (next + 1) (set os i (Some o))
     sequenced_new =

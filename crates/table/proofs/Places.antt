@@ -1,12 +1,12 @@
 -- The ends of a table after a place is taken or set free.
 use Rattle.std.proofs.Common.{◌≡◌, ℕ, zero, suc, ◌+◌, ◌-◌, ◌<◌, ◌≤◌, true, false, ltb, ◌⊎◌, List, [], ◌∷◌, length, take, drop, set, is_some, Some, None, Option, sym, refl, ap, ◌∙◌, subst, inl, inr, ⊎_elim, arith, get_or-drop, length-drop, length-set}
-use Rattle.std.proofs.lemmas.Bool.{lt-ltb, le-ltb, cases_lt, cond_both}
+use Rattle.std.proofs.lemmas.Bool.{lt-ltb, le-ltb, cases_lt, both_ways, cond_both}
 use Rattle.std.proofs.lemmas.List.{take_all}
 use Rattle.table.specs.declared.records.OrderRecord.{OrderRecord}
 use Rattle.table.specs.declared.ends.Ends.{Ends}
-use Rattle.table.specs.Sequence.{Orders, place_at, rests_at, in_turn, in_sequence, resting_of}
+use Rattle.table.specs.Sequence.{Orders, place_at, rests_at, record_at, in_turn, in_sequence, resting_of, Sequenced}
 use Rattle.table.specs.Places.{Sound, First, Found}
-use Rattle.table.proofs.Kept.{places, sequenced_new}
+use Rattle.table.proofs.Kept.{places, sequenced_same, sequenced_gone, sequenced_new}
 use Rattle.table.proofs.Resting.{resting_length}
 
 -- As many orders rest as places are in use.
@@ -101,3 +101,50 @@ module _ (os : Orders) (e : Ends) (s : Sound os e) (i : ℕ) where
 
       never : r ≤ i → ⊥
       never far = omega arith
+
+  module _ (within : i < length os) where
+    -- An order that leaves its place.
+    pub above_gone : (k : ℕ) → e.high ≤ k → rests_at (set os i None) k ≡ false
+    above_gone k h = places os i None within (λ m x. e.high ≤ m → is_some x ≡ false) (λ _. refl) (λ m ne far. s.above m far) k h
+
+    pub sound_gone : (r h : ℕ) → r ≤ e.low → r ≤ i → h ≤ e.high
+        → ((k : ℕ) → h ≤ k → rests_at (set os i None) k ≡ false) → ((k : ℕ) → k + 1 ≡ h → rests_at (set os i None) k ≡ true)
+        → Sound (set os i None) (record { low = r; high = h; next = e.next })
+    sound_gone r h le lt less above tight =
+        let upto = s.inside in
+        record {
+          small = rw (length-set os i None) s.small;
+          order = ⊎_elim (λ under. absurd (both_ways (rests_at (set os i None) h) (above h (omega arith)) (below h under))) (λ at. at) (cases_lt h r);
+          inside = rw (length-set os i None) (omega arith);
+          below = below;
+          above = above;
+          tight = tight;
+          sequenced = sequenced_gone os i within e.next s.sequenced;
+        }
+      where
+        never : i < r → ⊥
+        never less = omega arith
+
+        below : (k : ℕ) → k < r → rests_at (set os i None) k ≡ true
+        below k h = places os i None within (λ m x. m < r → is_some x ≡ true) (λ less. absurd (never less)) (λ m ne less. s.below m (omega arith)) k h
+
+    -- An order in its own place, with some sequence of timestamps.
+    sound_there : (o : OrderRecord) (next : ℕ) → rests_at os i ≡ true → Sequenced next (set os i (Some o)) → Sound (set os i (Some o)) (record { low = e.low; high = e.high; next = next })
+    sound_there o next on q =
+        record {
+          small = rw (length-set os i (Some o)) s.small;
+          order = s.order;
+          inside = rw (length-set os i (Some o)) s.inside;
+          below = λ k h. places os i (Some o) within (λ m x. m < e.low → is_some x ≡ true) (λ _. refl) (λ m ne less. s.below m less) k h;
+          above = λ k h. places os i (Some o) within (λ m x. e.high ≤ m → is_some x ≡ false) (λ far. absurd (both_ways (rests_at os i) (s.above i far) on)) (λ m ne far. s.above m far) k h;
+          tight = λ k h. places os i (Some o) within (λ m x. m + 1 ≡ e.high → is_some x ≡ true) (λ _. refl) (λ m ne top. s.tight m top) k h;
+          sequenced = q;
+        }
+
+    -- An order changed in place.
+    pub sound_changed : (o : OrderRecord) → rests_at os i ≡ true → o.time ≡ (record_at os i).time → Sound (set os i (Some o)) e
+    sound_changed o on same = sound_there o e.next on (sequenced_same os i o within on same e.next s.sequenced)
+
+    -- An order with the next timestamp.
+    pub sound_moved : (o : OrderRecord) → rests_at os i ≡ true → o.time ≡ e.next → Sound (set os i (Some o)) (record { low = e.low; high = e.high; next = e.next + 1 })
+    sound_moved o on last = sound_there o (e.next + 1) on (sequenced_new os i o within e.next last s.sequenced)

@@ -13,7 +13,7 @@ ghost use Rattle.table.specs.Places.{Sound, Found};
 ghost use Rattle.table.specs.Walking.{FirstFrom};
 
 pub use ends::Ends;
-pub use journals::Journal;
+pub use journals::{Journal, NotedPlaces};
 pub use order_table::OrderTable;
 pub use records::OrderRecord;
 
