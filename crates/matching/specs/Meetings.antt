@@ -26,11 +26,14 @@ slice_met m = slice_from m.resting m.hidden
 abbrev pub one_key : Order → Order → Bool
 one_key a b = a.broker.number == b.broker.number && (a.entry.key.number == b.entry.key.number && not (a.entry.key.number == 0))
 
--- What is left of the active order, and the resting one, are as the meeting says, and its reports came onto the sheet, the oldest first.
+-- What is left of the active order, and the resting one, are as the meeting says, its reports came onto the sheet, the oldest first, and all else of the meeting is as it was.
 pub record ComesTo (f : Effect) (m m' : Meeting) (sheet sheet' : EventSheet) : Type 0 where
   pub left : m'.left ≡ shares f.left
   pub resting : m'.resting ≡ holding f.shown f.reserve m.resting
   pub adds : Adds sheet sheet' (reverse f.reports)
+  pub view : m'.view ≡ m.view
+  pub active : m'.active ≡ m.active
+  pub hidden : m'.hidden ≡ m.hidden
 
 -- What comes of the meeting of a, with so much left, and a slice of a table.
 abbrev pub comes_of : View → Order → ℕ → Orders → Candidate → Effect
