@@ -2,6 +2,7 @@
 ghost use Rattle.std.specs.Prelude.{◌≡◌, ℕ, ◌+◌, ◌<◌, ◌≤◌, List, [], ◌∷◌, ◌++◌, IsSomeAnd};
 ghost use Rattle.table.specs.Noting.{noted, Follows};
 
+// An array with a count, since an `ArrayVec` is no `Copy`, and the journal is.
 /// The first `count` places are those noted, with repeats.
 #[derive(Clone, Copy, Drop)]
 pub struct NotedPlaces {
