@@ -1,20 +1,24 @@
 -- Cells with nothing in them.
-use Rattle.std.proofs.Common.{◌≡◌, ℕ, zero, suc, ◌<◌, Bool, List, length, None, Some, Decides, refl}
+use Rattle.std.proofs.Common.{◌≡◌, ℕ, zero, suc, Bool, None, refl}
 use Rattle.std.specs.Prelude.{replicate}
-use Rattle.cells.specs.Cells.{Cell, lookup, at, Sound}
-use Rattle.cells.proofs.Lookups.{free_not_used, used_below, lookup_none}
+use Rattle.cells.specs.Cells.{lookup, taken, at, Sound}
 
-pub free_at : (K V : Type 0) (n i : ℕ) → at {K = K} {V = V} (replicate n None) i ≡ None
-free_at K V zero i = refl
-free_at K V (suc n) zero = refl
-free_at K V (suc n) (suc i) = free_at K V n i
+module _ (K V : Type 0) where
+  pub free_at : (n i : ℕ) → at {K = K} {V = V} (replicate n None) i ≡ None
+  free_at zero i = refl
+  free_at (suc n) zero = refl
+  free_at (suc n) (suc i) = free_at n i
 
-module _ {K V : Type 0} (e : K → K → Bool) (dec : (x y : K) → Decides (e x y) (x ≡ y)) (number : K → ℕ) (cs : List (Cell K V)) (free : (j : ℕ) → j < length cs → at cs j ≡ None) where
-  unused : (j : ℕ) (k : K) (v : V) → at cs j ≡ Some (k, v) → ⊥
-  unused j k v h = free_not_used (at cs j) k v (free j (used_below cs j k v h)) h
+  pub free_sound : (number : K → ℕ) (n : ℕ) → Sound {K = K} {V = V} number (replicate n None)
+  free_sound number n = record {
+    once = λ i j q v w g h. let f = free_at n i in absurd (cc);
+    reached = λ i j q v g l s p h. let f = free_at n i in cc;
+  }
 
-  pub free_sound : Sound number cs
-  free_sound = record { once = λ i j k v w g h. absurd (unused i k v g); reached = λ i j k v g l s p h. unused i k v g }
+  pub free_lookup : (e : K → K → Bool) (n : ℕ) (q : K) → lookup {K = K} {V = V} e (replicate n None) q ≡ None
+  free_lookup e zero q = refl
+  free_lookup e (suc n) q = free_lookup e n q
 
-  pub free_none : (q : K) → lookup e cs q ≡ None
-  free_none q = lookup_none e dec cs q (λ i v. unused i q v)
+  pub free_taken : (n : ℕ) → taken {K = K} {V = V} (replicate n None) ≡ 0
+  free_taken zero = refl
+  free_taken (suc n) = free_taken n

@@ -3,10 +3,10 @@ use Rattle.std.proofs.Common.{◌≡◌, ℕ, ◌+◌, ◌<◌, ◌≢◌, Bool,
 use Rattle.std.proofs.lemmas.Nat.{mod_below}
 use Rattle.std.proofs.lemmas.List.{get_or_read}
 use Rattle.std.proofs.lemmas.Bool.{cases_order, cases_lt}
-use Rattle.cells.specs.Cells.{Cell, at, gap, home, Sound}
+use Rattle.cells.specs.Cells.{Cell, lookup, at, gap, home, Sound}
 use Rattle.cells.specs.Searching.{Sought}
 use Rattle.cells.proofs.Rings.{gap_below, gap_once}
-use Rattle.cells.proofs.Lookups.{one_key, used_below, lookup_none, lookup_some}
+use Rattle.cells.proofs.Lookups.{free_not_used, one_key, used_below, lookup_none, lookup_some}
 use Rattle.cells.proofs.Counts.{taken_all}
 
 -- a cell that is used by another key
@@ -66,3 +66,14 @@ module _ {K V : Type 0} (e : K → K → Bool) (dec : (x y : K) → Decides (e x
   sought_full passed =
       let near : (j : ℕ) → j < length cs → gap (length cs) (home number (length cs) k) j < length cs = λ j l. gap_below (length cs) (home number (length cs) k) j (home_below (omega arith)) l in
       (taken_all cs (λ j l. (passed j l (near j l)).0), lookup_none e dec cs k (λ x v u. let l = used_below cs x k v u in (passed x l (near x l)).1 v u))
+
+-- cells with nothing in them
+module _ {K V : Type 0} (e : K → K → Bool) (dec : (x y : K) → Decides (e x y) (x ≡ y)) (number : K → ℕ) (cs : List (Cell K V)) (free : (j : ℕ) → j < length cs → at cs j ≡ None) where
+  unused : (j : ℕ) (k : K) (v : V) → at cs j ≡ Some (k, v) → ⊥
+  unused j k v h = free_not_used (at cs j) k v (free j (used_below cs j k v h)) h
+
+  pub free_sound : Sound number cs
+  free_sound = record { once = λ i j k v w g h. absurd (unused i k v g); reached = λ i j k v g l s p h. unused i k v g }
+
+  pub free_none : (q : K) → lookup e cs q ≡ None
+  free_none q = lookup_none e dec cs q (λ i v. unused i q v)

@@ -2,7 +2,8 @@ use Rattle.std.proofs.Common.{◌≡◌, ℕ, ◌<◌, length, None, Some, refl,
 use Rattle.std.specs.Prelude.{replicate}
 use Rattle.cells.specs.Cells.{at}
 use Rattle.cells.proofs.Counts.{taken_none}
-use Rattle.cells.proofs.Free.{free_at, free_sound, free_none}
+use Rattle.cells.proofs.Free.{free_at}
+use Rattle.cells.proofs.Walks.{free_sound, free_none}
 use Rattle.cells.proofs.search.clear.Goals as goal
 
 pub returns : goal.returns
